@@ -1,0 +1,4 @@
+pub mod Lawful
+pub mod Written
+pub mod Heads
+pub mod Exact

@@ -1,0 +1,4 @@
+pub mod Lines
+pub mod Format
+pub mod Judge
+pub mod Theorems
