@@ -1,0 +1,5 @@
+pub mod Combinations
+pub mod Spans
+pub mod Tested
+pub mod Closures
+pub mod Dimensions

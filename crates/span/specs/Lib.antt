@@ -1,0 +1,3 @@
+pub mod Span
+pub mod Dimension
+pub mod Theorems
