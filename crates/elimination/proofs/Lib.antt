@@ -1,0 +1,4 @@
+pub mod Places
+pub mod Kept
+pub mod Standing
+pub mod Counts
