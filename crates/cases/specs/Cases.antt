@@ -9,6 +9,7 @@ use Rattle.std.specs.declared.result.Result.the-variants.{Ok, Err}
 use Rattle.record.specs.declared.faults.RecordFault.{RecordFault}
 use Rattle.record.specs.declared.faults.Refusal.{Refusal}
 use Rattle.record.specs.Faults.{numberOf}
+use Rattle.galois.specs.Polynomials.{binaryOps}
 use Rattle.access.specs.Table.{qualifiedBy}
 use Rattle.access.specs.Format.{structureIn}
 use Rattle.verdict.specs.Bounds.{lowerBoundIn}
@@ -24,6 +25,8 @@ pub data Case : Type 0 where
   Bounded : (structure certificate : List ℕ) (count total : ℕ) → Case
   -- they are refused by this number, with this line
   Refused : (structure certificate : List ℕ) (number line : ℕ) → Case
+  -- in the field of order 4, 8 or 16 this is the product
+  Multiplied : (order a b product : ℕ) → Case
 
 abbrev pub qualifies : Result (ℕ × List Bool) RecordFault → ℕ → Bool
 qualifies (Ok s) a = qualifiedBy (s .1) a
@@ -46,6 +49,7 @@ holds (Qualified structure a) = qualifies (structureIn structure) a
 holds (Unqualified structure a) = disqualifies (structureIn structure) a
 holds (Bounded structure certificate count total) = isBound (lowerBoundIn structure certificate) count total
 holds (Refused structure certificate number line) = isRefused (lowerBoundIn structure certificate) number line
+holds (Multiplied order a b product) = eqb (binaryOps order .mul a b) product
 
 abbrev pub allHold : List Case → Bool
 allHold [] = true
@@ -58,6 +62,9 @@ cases =
     ∷ Bounded chain (chainCertificate 3 0x06) 3 2
     ∷ Refused chain (chainCertificate 4 0x06) 7 0
     ∷ Refused chain (chainCertificate 3 0x04) 6 4
+    ∷ Multiplied 16 2 8 3
+    ∷ Multiplied 16 2 9 1
+    ∷ Multiplied 8 2 5 1
     ∷ []
 
 abbrev pub CasesHold : Type 0

@@ -4,6 +4,10 @@ ghost use Rattle.cases.specs.Cases.{CasesHold};
 #[cfg(test)]
 mod certificates;
 #[cfg(test)]
+mod fields;
+#[cfg(test)]
+mod ranks;
+#[cfg(test)]
 mod records;
 #[cfg(test)]
 mod structures;
