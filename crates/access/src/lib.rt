@@ -1,4 +1,6 @@
 // Access structures: which coalitions of participants can recover the secret.
+#![tactic(auto)]
+
 mod reading;
 mod sets;
 mod structure;

@@ -1,5 +1,7 @@
 // bound RULE CERTIFICATE: reads an access structure and a certificate from two files, says what they hold, and prints
 // the lower bound on the information ratio that they prove, or the refusal.
+#![tactic(auto)]
+
 use access::{AccessStructure, read_structure};
 use anyhow::anyhow;
 use certificate::Header;

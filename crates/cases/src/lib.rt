@@ -1,4 +1,6 @@
 // Worked cases: one list that is proved, and tests that are run.
+#![tactic(auto)]
+
 ghost use Rattle.cases.specs.Cases.{CasesHold};
 
 #[cfg(test)]

@@ -1,4 +1,6 @@
 // The certificate record: what its bytes mean, when it is taken, and what is then true of every scheme.
+#![tactic(auto)]
+
 ghost use Rattle.certificate.specs.Theorems.{Trusted, HeadsReadExactly, ReadsExactly, TakesExactly};
 
 mod header;

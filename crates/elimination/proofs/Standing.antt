@@ -1,5 +1,5 @@
 -- Between the turns of elimination. Assumes nothing.
-use Rattle.std.proofs.Common.{◌≡◌, ℕ, ◌+◌, ◌-◌, ◌<◌, ◌≤◌, List, sym, ap, ◌∙◌, subst, inl, inr, not-suc-le-zero, add_zero, zero_add, arith}
+use Rattle.std.proofs.Common.{◌≡◌, ℕ, ◌+◌, ◌-◌, ◌<◌, ◌≤◌, List, sym, ap, ◌∙◌, subst, inl, inr, not-suc-le-zero, add-zero, zero-add, arith}
 use Rattle.std.proofs.lemmas.Bool.{cases_eq}
 use Rattle.field.specs.Laws.{Ops, Lawful, code}
 use Rattle.span.specs.Span.{SameSpan}
@@ -17,7 +17,7 @@ pub record Standing (o : Ops) (d rows c : ℕ) (m₀ : List ℕ) (top : ℕ) (m 
 pub standing_first : (o : Ops) (d rows : ℕ) (m : List ℕ) → Standing o d rows 0 m 0 m
 standing_first o d rows m = record {
   within = omega arith;
-  rest = let e : rows ≡ rows - 0 = omega arith in ap (λ n. dimension o d (rows_from m d 0 n)) e ∙ sym (zero_add _);
+  rest = let e : rows ≡ rows - 0 = omega arith in ap (λ n. dimension o d (rows_from m d 0 n)) e ∙ sym (zero-add _);
   left = λ i k a b h. absurd (not-suc-le-zero h);
   span = λ v. ((λ i. i), (λ i. i));
 }
@@ -55,7 +55,7 @@ standing_turn o d rows c m₀ top m m' s h e l t = record {
 pub standing_last : (o : Ops) (L : Lawful o) (d rows c : ℕ) (m₀ : List ℕ) (top : ℕ) (m : List ℕ) → Standing o d rows c m₀ top m → d ≤ c
     → top ≡ dimension o d (rows_from m₀ d 0 rows)
 standing_last o L d rows c m₀ top m s h =
-    sym (s.rest ∙ ap (λ n. top + n) (end_none o L d m top (rows - top) (λ i k a b z. s.left i k a (past i a b) (omega arith))) ∙ add_zero top)
+    sym (s.rest ∙ ap (λ n. top + n) (end_none o L d m top (rows - top) (λ i k a b z. s.left i k a (past i a b) (omega arith))) ∙ add-zero top)
   where
     past : (i : ℕ) → top ≤ i → i < top + (rows - top) → i < rows
     past i a b = let w = s.within in omega arith

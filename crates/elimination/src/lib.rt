@@ -1,4 +1,6 @@
 // The rank of vectors over any field, by elimination.
+#![tactic(auto)]
+
 ghost use Rattle.std.specs.Prelude.{◌≡◌, ◌*◌, ◌≤◌, length};
 ghost use Rattle.span.specs.Dimension.{dimension};
 ghost use Rattle.elimination.specs.Rows.{rows_from, Copied};
@@ -27,14 +29,14 @@ fn count_in(codes: usize, width: usize) -> Option<usize>
 // The dimension of the span of vectors that stand one after another, each of `width` codes. There is no answer where
 // they are not at most 32 whole vectors of 1 to 16 codes. The vectors are read only.
 pub fn rank<F: Field>(f: &F, vectors: &[u8], width: usize) -> Option<u8>
-    ensures value { result ≡ rank_of (ops f.now) vectors.now width }
-    ensures basis { CountsBasis (ops f.now) vectors.now width result }
+    ensures value { result ≡ rank_of (F.ops f.now) vectors.now width }
+    ensures basis { CountsBasis (F.ops f.now) vectors.now width result }
 {
     rank_in(f, vectors, width)
 }
 
 fn rank_in<F: Field>(f: &F, vectors: &[u8], width: usize) -> Option<u8>
-    ensures { result ≡ rank_of (ops f.now) vectors.now width }
+    ensures { result ≡ rank_of (F.ops f.now) vectors.now width }
 {
     match count_in(vectors.len(), width) {
         Some(rows) => Some(worked_out(f, vectors, rows, width) as u8),
@@ -46,7 +48,7 @@ fn rank_in<F: Field>(f: &F, vectors: &[u8], width: usize) -> Option<u8>
 fn worked_out<F: Field>(f: &F, vectors: &[u8], rows: usize, d: usize) -> usize
     requires whole { rows * d ≡ length vectors.now }
     requires room { length vectors.now ≤ 512 }
-    ensures value { result ≡ dimension (ops f.now) d (rows_from vectors.now d 0 rows) }
+    ensures value { result ≡ dimension (F.ops f.now) d (rows_from vectors.now d 0 rows) }
     ensures most { result ≤ rows }
 {
     let mut work = [0; ROOM];

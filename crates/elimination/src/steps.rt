@@ -8,7 +8,7 @@ use field::Field;
 
 // What a byte counts as: itself below the order, else 0.
 fn counted<F: Field>(f: &F, x: u8) -> u8
-    ensures { result ≡ code (ops f.now).order x }
+    ensures { result ≡ code (F.ops f.now).order x }
 {
     if x < f.order() { x } else { 0 }
 }
@@ -20,8 +20,8 @@ pub(crate) fn seek<F: Field>(f: &F, m: &[u8], rows: usize, d: usize, top: usize,
     requires start { top ≤ rows }
     ensures from { top ≤ result }
     ensures within { result ≤ rows }
-    ensures before { (i : ℕ) → top ≤ i → i < result → code (ops f.now).order (row m.now d i c) ≡ 0 }
-    ensures found { result < rows → code (ops f.now).order (row m.now d result c) ≢ 0 }
+    ensures before { (i : ℕ) → top ≤ i → i < result → code (F.ops f.now).order (row m.now d i c) ≡ 0 }
+    ensures found { result < rows → code (F.ops f.now).order (row m.now d result c) ≢ 0 }
 {
     for r in top..rows {
         if counted(f, m[r * d + c]) != 0 {
@@ -50,7 +50,7 @@ pub(crate) fn exchange(m: &mut [u8], d: usize, r: usize, p: usize)
 // row r := s row r
 pub(crate) fn scale<F: Field>(f: &F, m: &mut [u8], d: usize, r: usize, s: u8)
     requires within { r * d + d ≤ length m.old }
-    ensures { Scaled (ops f.now) d r s m.old m.new }
+    ensures { Scaled (F.ops f.now) d r s m.old m.new }
 {
     for k in 0..d {
         m[r * d + k] = f.mul(s, m[r * d + k]);
@@ -59,7 +59,7 @@ pub(crate) fn scale<F: Field>(f: &F, m: &mut [u8], d: usize, r: usize, s: u8)
 
 // x - s y
 fn subtracted<F: Field>(f: &F, s: u8, x: u8, y: u8) -> u8
-    ensures { result ≡ less (ops f.now) s x y }
+    ensures { result ≡ less (F.ops f.now) s x y }
 {
     f.add(x, f.neg(f.mul(s, y)))
 }
@@ -69,7 +69,7 @@ pub(crate) fn subtract<F: Field>(f: &F, m: &mut [u8], d: usize, r: usize, p: usi
     requires differ { r ≢ p }
     requires r_within { r * d + d ≤ length m.old }
     requires p_within { p * d + d ≤ length m.old }
-    ensures { Subtracted (ops f.now) d r p s m.old m.new }
+    ensures { Subtracted (F.ops f.now) d r p s m.old m.new }
 {
     for k in 0..d {
         m[r * d + k] = subtracted(f, s, m[r * d + k], m[p * d + k]);

@@ -13,7 +13,7 @@ fn clear<F: Field>(f: &F, m: &mut [u8], rows: usize, d: usize, top: usize, c: us
     requires fits { rows * d ≤ length m.old }
     requires column { c < d }
     requires within { top < rows }
-    ensures { Cleared (ops f.now) d top rows c m.old m.new }
+    ensures { Cleared (F.ops f.now) d top rows c m.old m.new }
 {
     for r in top + 1..rows {
         let s = m[r * d + c];
@@ -28,11 +28,11 @@ fn turn<F: Field>(f: &F, m: &mut [u8], rows: usize, d: usize, top: usize, p: usi
     requires column { c < d }
     requires from { top ≤ p }
     requires within { p < rows }
-    requires pivot { code (ops f.now).order (row m.old d p c) ≢ 0 }
-    requires left { ZeroLeft (ops f.now) d rows top c m.old }
-    ensures falls { dimension (ops f.now) d (rows_from m.old d top (rows - top)) ≡ dimension (ops f.now) d (rows_from m.new d (top + 1) (rows - (top + 1))) + 1 }
-    ensures left { ZeroLeft (ops f.now) d rows (top + 1) (c + 1) m.new }
-    ensures span { SameSpan (ops f.now) d (rows_from m.old d 0 rows) (rows_from m.new d 0 rows) }
+    requires pivot { code (F.ops f.now).order (row m.old d p c) ≢ 0 }
+    requires left { ZeroLeft (F.ops f.now) d rows top c m.old }
+    ensures falls { dimension (F.ops f.now) d (rows_from m.old d top (rows - top)) ≡ dimension (F.ops f.now) d (rows_from m.new d (top + 1) (rows - (top + 1))) + 1 }
+    ensures left { ZeroLeft (F.ops f.now) d rows (top + 1) (c + 1) m.new }
+    ensures span { SameSpan (F.ops f.now) d (rows_from m.old d 0 rows) (rows_from m.new d 0 rows) }
 {
     exchange(m, d, top, p);
     let s = f.inv(m[top * d + c]);
@@ -43,9 +43,9 @@ fn turn<F: Field>(f: &F, m: &mut [u8], rows: usize, d: usize, top: usize, p: usi
 // The dimension of the span of the rows, by elimination in place: the rows at exit span what they spanned at entry.
 pub(crate) fn eliminate<F: Field>(f: &F, m: &mut [u8], rows: usize, d: usize) -> usize
     requires fits { rows * d ≤ length m.old }
-    ensures value { result ≡ dimension (ops f.now) d (rows_from m.old d 0 rows) }
+    ensures value { result ≡ dimension (F.ops f.now) d (rows_from m.old d 0 rows) }
     ensures most { result ≤ rows }
-    ensures span { SameSpan (ops f.now) d (rows_from m.old d 0 rows) (rows_from m.new d 0 rows) }
+    ensures span { SameSpan (F.ops f.now) d (rows_from m.old d 0 rows) (rows_from m.new d 0 rows) }
 {
     let mut top = 0;
     for c in 0..d {

@@ -1,4 +1,6 @@
 // Finite fields on codes: the operations and the laws that any implementation shows.
+#![tactic(auto)]
+
 ghost use Rattle.std.specs.Prelude.{◌≡◌};
 ghost use Rattle.field.specs.Laws.{Ops, Lawful};
 

@@ -1,4 +1,6 @@
 // The fields of prime order up to 13 and of order 4, 8 and 16, on codes, each with its laws.
+#![tactic(auto)]
+
 mod binary;
 mod code;
 mod gf16;

@@ -1,4 +1,6 @@
 // Ranks of closure tests, such as spans of vectors and connectedness in graphs.
+#![tactic(auto)]
+
 ghost use Rattle.matroid.specs.Theorems.{RanksLawful, RanksPolymatroid};
 
 // What a closure test counts is the length of every independent list with the same closure; it depends on the closure

@@ -1,4 +1,6 @@
 // Models: what answers for a number of participants and a rank function, and means a polymatroid by it.
+#![tactic(auto)]
+
 mod answers;
 mod queries;
 

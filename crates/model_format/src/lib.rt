@@ -1,4 +1,6 @@
 // The records of models: definitions, encoders, and what is true of them.
+#![tactic(auto)]
+
 ghost use Rattle.model_format.specs.Theorems.{VectorsExactly, GraphsExactly, ThresholdsExactly, PartsExactly, ModelsExactly, RanksLawful};
 
 // A model comes out of exactly one record, its own, and only if it is lawful.

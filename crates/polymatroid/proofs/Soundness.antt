@@ -1,5 +1,5 @@
 -- Why a right certificate binds. Assumes nothing.
-use Rattle.std.proofs.Common.{◌≡◌, ℕ, zero, suc, ◌+◌, ◌*◌, ◌^◌, ◌<◌, ◌≤◌, Bool, ◌⊎◌, List, ℤ, pos, ◌-ℤ◌, ◌≤ℤ◌, sym, refl, ap, ◌∙◌, subst, inl, inr, add_mul, mul-le-mul_left, arith}
+use Rattle.std.proofs.Common.{◌≡◌, ℕ, zero, suc, ◌+◌, ◌*◌, ◌^◌, ◌<◌, ◌≤◌, Bool, ◌⊎◌, List, ℤ, pos, ◌-ℤ◌, ◌≤ℤ◌, sym, refl, ap, ◌∙◌, subst, inl, inr, add-mul, mul-le-mul_left, arith}
 use Rattle.std.specs.List.{AllByRecursion as All}
 use Rattle.std.proofs.lemmas.Int.{ints}
 use Rattle.std.proofs.lemmas.Bool.{cases_lt}
@@ -49,7 +49,7 @@ largest f (suc n) = grown (largest f n)
 spread : (weight f : ℕ → ℕ) (m n : ℕ) → ((j : ℕ) → 1 ≤ j → j ≤ n → f j ≤ m) → sum_to n (λ i. weight i * f i) ≤ sum_to n weight * m
 spread weight f m zero all = omega arith
 spread weight f m (suc n) all =
-    omega (arith, spread weight f m n (λ j p q. all j p (omega arith)), mul-le-mul_left (weight (suc n)) (all (suc n) (omega arith) (omega arith)), add_mul (sum_to n weight) (weight (suc n)) m)
+    omega (arith, spread weight f m n (λ j p q. all j p (omega arith)), mul-le-mul_left (weight (suc n)) (all (suc n) (omega arith) (omega arith)), add-mul (sum_to n weight) (weight (suc n)) m)
 
 pub sound : Sound
 sound zero qualified weight count lines some lawful matches h p r = absurd (omega arith)

@@ -1,4 +1,6 @@
 // Polymatroids, access structures, and why a right certificate is a lower bound for every scheme.
+#![tactic(auto)]
+
 ghost use Rattle.polymatroid.specs.Inequality.{LinesHold};
 ghost use Rattle.polymatroid.specs.Certificate.{Weighted, Claims, Sound};
 

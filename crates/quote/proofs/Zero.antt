@@ -1,7 +1,7 @@
 -- Only a bound is answered by 0. Assumes nothing.
 use Rattle.std.proofs.Common.{◌≡◌, ℕ, ◌≤◌, List, Ok, Err, Result, sym, refl, ◌∙◌, arith}
 use Rattle.record.specs.declared.faults.Reason.{Reason}
-use Rattle.record.specs.declared.faults.Reason.TheVariants.{CutShort, WrongMark, OutOfRange, SetNotAllowed, NotAntichain, Unlawful, SumDiffers, CodeOutOfRange, NotRealised, RankTooLarge, LeftOver, ParticipantsDiffer}
+use Rattle.record.specs.declared.faults.Reason.TheVariants.{CutShort, WrongMark, OutOfRange, SetNotAllowed, NotAntichain, Unlawful, SumDiffers, LeftOver, ParticipantsDiffer}
 use Rattle.record.specs.declared.faults.Refusal.{Refusal}
 use Rattle.record.specs.Faults.{number_of}
 use Rattle.verdict.specs.Bounds.{lower_bound_in, Bounds}
@@ -16,9 +16,6 @@ numbered SetNotAllowed = omega arith
 numbered NotAntichain = omega arith
 numbered Unlawful = omega arith
 numbered SumDiffers = omega arith
-numbered CodeOutOfRange = omega arith
-numbered NotRealised = omega arith
-numbered RankTooLarge = omega arith
 numbered LeftOver = omega arith
 numbered ParticipantsDiffer = omega arith
 

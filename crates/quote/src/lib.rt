@@ -1,4 +1,6 @@
 // The boundary to C: one judgement over two byte buffers.
+#![tactic(auto)]
+
 ghost use Rattle.std.specs.Prelude.{◌≡◌, ℕ};
 ghost use Rattle.verdict.specs.Bounds.{Bounds};
 ghost use Rattle.quote.specs.Answer.{answered, answer_to};

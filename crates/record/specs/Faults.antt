@@ -1,7 +1,7 @@
 -- The numbers of the refusals, and how a fault is handed on. Assumes nothing.
 use Rattle.std.specs.Prelude.{ℕ}
 use Rattle.record.specs.declared.faults.Reason.{Reason}
-use Rattle.record.specs.declared.faults.Reason.TheVariants.{CutShort, WrongMark, OutOfRange, SetNotAllowed, NotAntichain, Unlawful, SumDiffers, CodeOutOfRange, NotRealised, RankTooLarge, LeftOver, ParticipantsDiffer}
+use Rattle.record.specs.declared.faults.Reason.TheVariants.{CutShort, WrongMark, OutOfRange, SetNotAllowed, NotAntichain, Unlawful, SumDiffers, LeftOver, ParticipantsDiffer}
 use Rattle.record.specs.declared.faults.LineFault.{LineFault}
 use Rattle.record.specs.declared.faults.RecordFault.{RecordFault}
 use Rattle.record.specs.declared.faults.Refusal.{Refusal}
@@ -14,9 +14,6 @@ number_of SetNotAllowed = 4
 number_of NotAntichain = 5
 number_of Unlawful = 6
 number_of SumDiffers = 7
-number_of CodeOutOfRange = 8
-number_of NotRealised = 9
-number_of RankTooLarge = 10
 number_of LeftOver = 11
 number_of ParticipantsDiffer = 12
 

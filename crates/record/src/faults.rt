@@ -8,9 +8,6 @@ pub enum Reason {
     NotAntichain,
     Unlawful,
     SumDiffers,
-    CodeOutOfRange,
-    NotRealised,
-    RankTooLarge,
     LeftOver,
     ParticipantsDiffer,
 }

@@ -1,4 +1,6 @@
 // Refusals, and the fields of a record of bytes.
+#![tactic(auto)]
+
 mod faults;
 mod fields;
 mod refusing;

@@ -4,9 +4,6 @@ ghost use Rattle.record.specs.Faults.{number_of, of_line, outside, unnamed, refu
 
 use crate::faults::{LineFault, Reason, RecordFault, Refusal};
 
-// What stands for the entry where a call names none.
-const UNNAMED: u32 = 0;
-
 impl Reason {
     pub fn number(self) -> u32
         ensures { result ≡ number_of self }
@@ -19,9 +16,6 @@ impl Reason {
             Reason::NotAntichain => 5,
             Reason::Unlawful => 6,
             Reason::SumDiffers => 7,
-            Reason::CodeOutOfRange => 8,
-            Reason::NotRealised => 9,
-            Reason::RankTooLarge => 10,
             Reason::LeftOver => 11,
             Reason::ParticipantsDiffer => 12,
         }
@@ -51,7 +45,7 @@ impl From<RecordFault> for Refusal {
     fn from(fault: RecordFault) -> Refusal {
         Refusal {
             reason: fault.reason,
-            entry: UNNAMED,
+            entry: 0,
             line: fault.line,
         }
     }
@@ -61,9 +55,10 @@ impl From<Reason> for Refusal {
     ghost from_gives = { λ x y. y ≡ refused x };
 
     fn from(reason: Reason) -> Refusal {
+        let unnamed = 0;
         Refusal {
             reason,
-            entry: UNNAMED,
+            entry: unnamed,
             line: 0,
         }
     }

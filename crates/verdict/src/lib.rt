@@ -1,4 +1,6 @@
 // Judging certificate records: the code that reads them and adds their lines up.
+#![tactic(auto)]
+
 mod bounds;
 mod heads;
 mod judging;

@@ -8,6 +8,6 @@ returns g c =
     let o = g.F.Field.ops c.args.f.now in
     let L = g.met.F.Field.lawful c.args.f.now in
     record {
-      value = c.rank-in.ensures;
-      basis = subst (CountsBasis o c.args.vectors.now c.args.width) (sym c.rank-in.ensures) (rank_basis o L c.args.vectors.now c.args.width);
+      value = c.rank_in.ensures;
+      basis = subst (CountsBasis o c.args.vectors.now c.args.width) (sym c.rank_in.ensures) (rank_basis o L c.args.vectors.now c.args.width);
     }

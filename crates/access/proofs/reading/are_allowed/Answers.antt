@@ -3,15 +3,15 @@ use Rattle.std.proofs.lemmas.Bool.{and_from, and_left, and_right, not_from_true,
 use Rattle.polymatroid.specs.Tests.{coalition}
 use Rattle.access.proofs.Chains.{allowed_failed, allowed_passed, allowed_end}
 use Rattle.access.proofs.reading.are_allowed.Goals as goal
-use Rattle.access.proofs.reading.are_allowed.Goals.{then-not-is-coalition-via-then-not-is-coalition, then-not-is-coalition-via-else-not-is-coalition+then-set-eq0}
+use Rattle.access.proofs.reading.are_allowed.Goals.{then-not-is_coalition-via-then-not-is_coalition, then-not-is_coalition-via-else-not-is_coalition+then-set-eq0}
 
-pub returns-then-not-is-coalition : goal.returns-then-not-is-coalition
-returns-then-not-is-coalition c =
+pub returns-then-not-is_coalition : goal.returns-then-not-is_coalition
+returns-then-not-is_coalition c =
     let a = get_or c.args.sets.now c.loop-set.set-index 0 in
     allowed_failed c.args.n c.args.sets.now c.loop-set.set-index c.loop-set-test.true
-    (elim c.then-not-is-coalition.branch [
-      | then-not-is-coalition-via-then-not-is-coalition w ↦ and_left (coalition c.args.n a) (not (eqb a 0)) (sym c.is-coalition.ensures ∙ w.if-not-is-coalition.true)
-      | then-not-is-coalition-via-else-not-is-coalition+then-set-eq0 w ↦ and_right (coalition c.args.n a) (not (eqb a 0)) (not_from_true (eqb a 0) (eq-eqb a 0 w.if-set-eq0.true))
+    (elim c.then-not-is_coalition.branch [
+      | then-not-is_coalition-via-then-not-is_coalition w ↦ and_left (coalition c.args.n a) (not (eqb a 0)) (sym c.is_coalition.ensures ∙ w.if-not-is_coalition.true)
+      | then-not-is_coalition-via-else-not-is_coalition+then-set-eq0 w ↦ and_right (coalition c.args.n a) (not (eqb a 0)) (not_from_true (eqb a 0) (eq-eqb a 0 w.if-set-eq0.true))
     ])
     ∙ c.loop-set.invariant
 
@@ -19,7 +19,7 @@ pub loop-set-preserved : goal.loop-set-preserved
 loop-set-preserved c =
     let a = get_or c.args.sets.now c.loop-set.set-index 0 in
     allowed_passed c.args.n c.args.sets.now c.loop-set.set-index c.loop-set-test.true
-    (and_from (coalition c.args.n a) (not (eqb a 0)) (sym c.if-not-is-coalition.ensures) (not_from_false (eqb a 0) (ne_eqb a 0 c.if-set-eq0.false)))
+    (and_from (coalition c.args.n a) (not (eqb a 0)) (sym c.if-not-is_coalition.ensures) (not_from_false (eqb a 0) (ne_eqb a 0 c.if-set-eq0.false)))
     ∙ c.loop-set.invariant
 
 pub returns : goal.returns

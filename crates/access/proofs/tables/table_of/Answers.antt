@@ -7,5 +7,5 @@ loop-k-preserved c = (
   length-set _ _ _ ∙ c.loop-k.invariant.0,
   below_more _ _
       (λ j h. let ne : j ≢ c.loop-k.k = omega arith in rw get_or-set_other (c.loop-k.invariant.1 j h))
-      (let lt : c.loop-k.k < length c.loop-k.table = omega (arith, c.loop-k.invariant.0) in rw get_or-set_same c.contains-one.ensures),
+      (let lt : c.loop-k.k < length c.loop-k.table = omega (arith, c.loop-k.invariant.0) in rw get_or-set_same c.contains_one.ensures),
 )

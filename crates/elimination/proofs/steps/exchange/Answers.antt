@@ -5,7 +5,7 @@ use Rattle.elimination.proofs.steps.exchange.Goals as goal
 pub loop-k-preserved : goal.loop-k-preserved
 loop-k-preserved c =
     exchanges c.args.d c.args.r c.args.p c.loop-k.k c.args.m.now c.loop-k.m
-    (λ e. omega (arith, c.if-r-p.false, e)) c.loop-k-test.true (omega (arith, c.requires.r-within)) (omega (arith, c.requires.p-within)) c.loop-k.invariant
+    (λ e. omega (arith, c.if-r-p.false, e)) c.loop-k-test.true (omega (arith, c.requires.r_within)) (omega (arith, c.requires.p_within)) c.loop-k.invariant
 
 pub returns : goal.returns
 returns c = record {

@@ -9,8 +9,8 @@ bounds-m-r g c = omega (arith, c.requires.fits, c.requires.column, row_within c.
 pub subtract-requires : goal.subtract-requires
 subtract-requires g c = record {
   differ = λ e. omega (arith, c.loop-r.auto.r);
-  r-within = omega (arith, c.requires.fits, row_within c.loop-r.r c.args.rows c.args.d c.loop-r-test.true);
-  p-within = omega (arith, c.requires.fits, row_within c.args.top c.args.rows c.args.d c.requires.within);
+  r_within = omega (arith, c.requires.fits, row_within c.loop-r.r c.args.rows c.args.d c.loop-r-test.true);
+  p_within = omega (arith, c.requires.fits, row_within c.args.top c.args.rows c.args.d c.requires.within);
 }
 
 pub loop-r-preserved : goal.loop-r-preserved

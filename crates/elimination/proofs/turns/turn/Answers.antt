@@ -8,8 +8,8 @@ pub exchange-requires : goal.exchange-requires
 exchange-requires g c =
     let t : c.args.top < c.args.rows = omega (arith, c.requires.from, c.requires.within) in
     record {
-      r-within = omega (arith, c.requires.fits, row_within c.args.top c.args.rows c.args.d t);
-      p-within = omega (arith, c.requires.fits, row_within c.args.p c.args.rows c.args.d c.requires.within);
+      r_within = omega (arith, c.requires.fits, row_within c.args.top c.args.rows c.args.d t);
+      p_within = omega (arith, c.requires.fits, row_within c.args.p c.args.rows c.args.d c.requires.within);
     }
 
 pub bounds-m-top : goal.bounds-m-top

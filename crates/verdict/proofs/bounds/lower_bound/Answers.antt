@@ -8,7 +8,7 @@ returns c =
     let structure = c.args.structure.now in
     let certificate = c.args.certificate.now in
     record {
-      value = c.bound-of.ensures;
-      exactly = λ count total. proved_exactly structure certificate count total (typed_bytes certificate c.type-inv.certificate);
-      binds = λ count total p. bounds structure certificate count total (sym c.bound-of.ensures ∙ p);
+      value = c.bound_of.ensures;
+      exactly = λ count total. proved_exactly structure certificate count total (typed_bytes certificate c.type_inv.certificate);
+      binds = λ count total p. bounds structure certificate count total (sym c.bound_of.ensures ∙ p);
     }

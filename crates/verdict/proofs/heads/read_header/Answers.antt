@@ -5,6 +5,6 @@ use Rattle.verdict.proofs.heads.read_header.Goals as goal
 
 pub returns : goal.returns
 returns c = record {
-  value = c.header-of.ensures;
-  exactly = λ h. heads_read_exactly (participants_of c.args.structure.now) c.args.bytes.now h (typed_bytes c.args.bytes.now c.type-inv.bytes);
+  value = c.header_of.ensures;
+  exactly = λ h. heads_read_exactly (participants_of c.args.structure.now) c.args.bytes.now h (typed_bytes c.args.bytes.now c.type_inv.bytes);
 }

@@ -15,7 +15,7 @@ returns-then-table-set c =
     let there : ℤ = claimed h s in
     let size : (1 * 2 ^ (c.from.result + 1)) % 65536 ≡ 2 ^ (h.participants + 1) = one_shl (c.from.result + 1) 16 (omega arith) ∙ ap (λ k. 2 ^ (k + 1)) c.from.ensures in
     one_fails (2 ^ (h.participants + 1)) _ s (omega arith)
-    (or_from (eqb s 0) (equal here there) (ne_eqb s 0 (omega arith)) (equal_apart here there (λ e. c.if-table-set.true (ap (of_z w64) (e ∙ sym c.claim-at.ensures)))))
+    (or_from (eqb s 0) (equal here there) (ne_eqb s 0 (omega arith)) (equal_apart here there (λ e. c.if-table-set.true (ap (of_z w64) (e ∙ sym c.claim_at.ensures)))))
 
 pub returns : goal.returns
 returns c =

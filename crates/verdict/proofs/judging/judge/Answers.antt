@@ -9,7 +9,7 @@ returns c =
     let s = c.args.structure.now in
     let bytes = c.args.bytes.now in
     record {
-      value = c.verdict-of.ensures;
-      taken = λ count total. takes_exactly (participants_of s) (qualified_in s) bytes count total (typed_bytes bytes c.type-inv.bytes);
-      binds = λ count total p. trusted (participants_of s) (qualified_in s) bytes count total (sym c.verdict-of.ensures ∙ p);
+      value = c.verdict_of.ensures;
+      taken = λ count total. takes_exactly (participants_of s) (qualified_in s) bytes count total (typed_bytes bytes c.type_inv.bytes);
+      binds = λ count total p. trusted (participants_of s) (qualified_in s) bytes count total (sym c.verdict_of.ensures ∙ p);
     }

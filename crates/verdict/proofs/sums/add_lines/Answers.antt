@@ -16,16 +16,16 @@ loop-i-init c = (
   ap (λ k. sums_of (participants_of c.args.structure.now) (qualified_in c.args.structure.now) k 1 c.args.bytes.now (replicate 256 (pos 0))) (sub-zero c.args.count),
 )
 
-pub add-line-requires : goal.add-line-requires
-add-line-requires c = all_wider (4 * c.loop-i.i) 16380 c.loop-i.table (omega arith) c.loop-i.invariant.1
+pub add_line-requires : goal.add_line-requires
+add_line-requires c = all_wider (4 * c.loop-i.i) 16380 c.loop-i.table (omega arith) c.loop-i.invariant.1
 
-pub returns-in-err-line : goal.returns-in-err-line
-returns-in-err-line c =
+pub returns-in_err-line : goal.returns-in_err-line
+returns-in_err-line c =
     let i : ℕ = c.loop-i.i in
     let one : c.args.count - i ≡ suc (c.args.count - (i + 1)) = omega arith in
-    let p = err_from_is_err_and c.from-residual.result c.from-residual.ensures.1 in
+    let p = err_from_is_err_and c.from_residual.result c.from_residual.ensures.1 in
     rw (p.1, p.2) (sums_refused (participants_of c.args.structure.now) (qualified_in c.args.structure.now) _ _ (i + 1) one
-    c.loop-i.rest.now c.loop-i.table c.in-err-line.field-0.0 c.in-err-line.ensures ∙ c.loop-i.invariant.2)
+    c.loop-i.rest.now c.loop-i.table c.in_err-line.field-0.0 c.in_err-line.ensures ∙ c.loop-i.invariant.2)
 
 pub loop-i-preserved : goal.loop-i-preserved
 loop-i-preserved c =
@@ -34,8 +34,8 @@ loop-i-preserved c =
     let n : ℕ = participants_of c.args.structure.now in
     let q : ℕ → Bool = qualified_in c.args.structure.now in
     let one : c.args.count - i ≡ suc k = omega arith in (
-      c.type-inv.table,
-      all_wider (4 * i + 4) (4 * (i + 1)) c.add-line.new.table (omega arith) (c.add-line.ensures.grows (4 * i) c.loop-i.invariant.1),
-      ap₂ (λ bytes table. sums_of n q k (i + 1 + 1) bytes table) (take_rest c.loop-i.rest.now 6) c.add-line.ensures.value ∙
-          sums_more n q _ k (i + 1) one c.loop-i.rest.now c.loop-i.table c.in-ok-line.line c.in-ok-line.ensures ∙ c.loop-i.invariant.2,
+      c.type_inv.table,
+      all_wider (4 * i + 4) (4 * (i + 1)) c.add_line.new.table (omega arith) (c.add_line.ensures.grows (4 * i) c.loop-i.invariant.1),
+      ap₂ (λ bytes table. sums_of n q k (i + 1 + 1) bytes table) (take_rest c.loop-i.rest.now 6) c.add_line.ensures.value ∙
+          sums_more n q _ k (i + 1) one c.loop-i.rest.now c.loop-i.table c.in_ok-line.line c.in_ok-line.ensures ∙ c.loop-i.invariant.2,
     )

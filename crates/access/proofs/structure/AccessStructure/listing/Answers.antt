@@ -8,15 +8,15 @@ use Rattle.access.proofs.structure.AccessStructure.listing.Goals as goal
 whole : (sets : List ℕ) (table : List Bool) → length table ≡ 128 → ((k : ℕ) → k < 128 → get_or table k false ≡ contains_one sets (2 * k)) → table ≡ table_of sets
 whole sets table sized each = fill_by_all (λ k. contains_one sets (2 * k)) table 128 false sized each
 
-pub invariant-of-result : goal.invariant-of-result
-invariant-of-result c =
-    let table = whole c.args.sets.now c.table-of.result c.table-of.ensures.sized c.table-of.ensures.each in
-    let laws : IsAccessStructure c.args.participants (qualified_by c.table-of.result) =
+pub invariant_of-result : goal.invariant_of-result
+invariant_of-result c =
+    let table = whole c.args.sets.now c.table_of.result c.table_of.ensures.sized c.table_of.ensures.each in
+    let laws : IsAccessStructure c.args.participants (qualified_by c.table_of.result) =
     subst (λ (t : List Bool). IsAccessStructure c.args.participants (qualified_by t)) (sym table) (table_is_structure c.args.participants c.args.sets.now c.requires) in
-    (c.requires.some, (c.requires.few, (laws.0, (laws.1, (laws.2, tt)))))
+    record { some = c.requires.some; few = c.requires.few; upward = laws.0; empty = laws.1; everyone = laws.2 }
 
 pub returns : goal.returns
 returns c = record {
   participants = refl;
-  table = whole c.args.sets.now c.table-of.result c.table-of.ensures.sized c.table-of.ensures.each;
+  table = whole c.args.sets.now c.table_of.result c.table_of.ensures.sized c.table_of.ensures.each;
 }
