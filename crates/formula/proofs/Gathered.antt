@@ -1,5 +1,5 @@
 -- The bytes of a set's members, put together, hold the items of its members, edges or vectors. Assumes nothing.
-use Rattle.std.proofs.Common.{◌≡◌, ℕ, zero, suc, ◌+◌, ◌*◌, ◌/◌, ◌%◌, ◌<◌, ◌≤◌, Bool, true, false, cond, ◌&&◌, eqb, leb, List, [], ◌∷◌, ◌++◌, length, get_or, take, drop, Some, None, sym, refl, ap, ◌∙◌, subst, ap₂, inl, inr, add_zero, mul-le-mul_right, add_mul, arith, length-append, length-drop, length-take}
+use Rattle.std.proofs.Common.{◌≡◌, ℕ, zero, suc, ◌+◌, ◌*◌, ◌/◌, ◌%◌, ◌<◌, ◌≤◌, Bool, true, false, cond, ◌&&◌, eqb, leb, List, [], ◌∷◌, ◌++◌, length, get_or, take, drop, Some, None, sym, refl, ap, ◌∙◌, subst, ap₂, inl, inr, add-zero, mul-le-mul_right, add-mul, arith, length-append, length-drop, length-take}
 use mathlib.Core.List.Memᴰ
 use mathlib.Core.List.{Memᴰ}
 use native.Mathlib.Nat.{mul-div_left, mul-mod_left}
@@ -78,7 +78,7 @@ length_part w counts items i all =
       length-take (get_or counts i 0 * w) (drop (before counts i * w) items),
       length-drop (before counts i * w) items,
       mul-le-mul_right w (items_within counts i),
-      add_mul (before counts i) (get_or counts i 0) w,
+      add-mul (before counts i) (get_or counts i 0) w,
     )
 
 -- what the bytes xs hold: k items, which are related to hs
@@ -90,7 +90,7 @@ module _ {E : Type 0} {w : ℕ} {item : List ℕ → ℕ → E} {R : E → E →
       → Holds w item R (m + n) (xs ++ ys) (hs ++ gs)
   holds_append xs ys hs gs m n (k, lx, km, e) (c, ly, cn, f) = (
     k + c,
-    omega (arith, length-append xs ys, add_mul k c w),
+    omega (arith, length-append xs ys, add-mul k c w),
     omega arith,
     subst (λ l. AllZip R l (hs ++ gs)) (sym (from_append (item (xs ++ ys)) 0 k c))
         (each_append R (items_from (item (xs ++ ys)) 0 k) hs (items_from (item (xs ++ ys)) (0 + k) c) gs
@@ -167,12 +167,12 @@ gathered_within w counts items s all =
 -- byte k of an item of w bytes, in bytes that are put together or taken out
 behind_at : (w : ℕ) (xs ys : List ℕ) (r j k : ℕ) → length xs ≡ r * w → get_or (xs ++ ys) ((r + j) * w + k) 0 ≡ get_or ys (j * w + k) 0
 behind_at w xs ys r j k e =
-    let h : (r + j) * w + k ≡ length xs + (j * w + k) = omega (arith, add_mul r j w) in
+    let h : (r + j) * w + k ≡ length xs + (j * w + k) = omega (arith, add-mul r j w) in
     ap (λ p. get_or (xs ++ ys) p 0) h ∙ get_or-append-add xs ys (j * w + k) 0
 
 part_at : (w : ℕ) (xs : List ℕ) (b c j k : ℕ) → j < c → k < w → get_or (take (c * w) (drop (b * w) xs)) (j * w + k) 0 ≡ get_or xs ((b + j) * w + k) 0
 part_at w xs b c j k l h =
-    let e : b * w + (j * w + k) ≡ (b + j) * w + k = omega (arith, add_mul b j w) in
+    let e : b * w + (j * w + k) ≡ (b + j) * w + k = omega (arith, add-mul b j w) in
     get_or-take (c * w) (drop (b * w) xs) (j * w + k) 0 (omega (arith, row_within j c w l)) ∙ get_or-drop (b * w) xs (j * w + k) 0
     ∙ ap (λ p. get_or xs p 0) e
 
@@ -181,8 +181,8 @@ edge_reads : Reads Edge 2 edge_at ◌≡◌
 edge_reads = record {
   through = λ x y z e f. e ∙ f;
   front = λ xs ys j l. pair (get_or_append_left xs ys 0 (j * 2) (omega arith)) (get_or_append_left xs ys 0 (j * 2 + 1) (omega arith));
-  behind = λ xs ys r j e. pair (simp add_zero at (behind_at 2 xs ys r j 0 e)) (behind_at 2 xs ys r j 1 e);
-  part = λ xs b c j l h. pair (simp add_zero at (part_at 2 xs b c j 0 l (omega arith))) (part_at 2 xs b c j 1 l (omega arith));
+  behind = λ xs ys r j e. pair (simp add-zero at (behind_at 2 xs ys r j 0 e)) (behind_at 2 xs ys r j 1 e);
+  part = λ xs b c j l h. pair (simp add-zero at (part_at 2 xs b c j 0 l (omega arith))) (part_at 2 xs b c j 1 l (omega arith));
 }
   where
     pair : {a b c d : ℕ} → a ≡ b → c ≡ d → ◌≡◌ {A = Edge} (a, c) (b, d)

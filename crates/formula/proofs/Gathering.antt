@@ -1,5 +1,5 @@
 -- Where the items of an element stand, and the bytes of a set's members element by element. Assumes nothing.
-use Rattle.std.proofs.Common.{◌≡◌, ℕ, zero, suc, ◌+◌, ◌*◌, ◌<◌, ◌≤◌, Bool, true, false, cond, List, [], ◌∷◌, ◌++◌, length, get_or, take, drop, refl, ap, ◌∙◌, mul-le-mul_right, add_mul, add-one, arith, length-append, length-take}
+use Rattle.std.proofs.Common.{◌≡◌, ℕ, zero, suc, ◌+◌, ◌*◌, ◌<◌, ◌≤◌, Bool, true, false, cond, List, [], ◌∷◌, ◌++◌, length, get_or, take, drop, refl, ap, ◌∙◌, mul-le-mul_right, add-mul, add-one, arith, length-append, length-take}
 use Rattle.std.proofs.lemmas.List.{take_all}
 use Rattle.matroid.specs.Members.{has, members}
 use Rattle.formula.specs.Holding.{total, before, bytes_by}
@@ -29,7 +29,7 @@ items_within counts i = omega (arith, before_more counts i, before_within counts
 
 pub part_within : (w : ℕ) (counts items : List ℕ) (i : ℕ) → i < length counts → total counts * w ≡ length items → before counts i * w + get_or counts i 0 * w ≤ length items
 part_within w counts items i l all =
-    omega (arith, mul-le-mul_right w (items_within counts i), add_mul (before counts i) (get_or counts i 0) w)
+    omega (arith, mul-le-mul_right w (items_within counts i), add-mul (before counts i) (get_or counts i 0) w)
 
 -- one element more, as a loop over the elements counts them
 pub gather_more : (w : ℕ) (counts items : List ℕ) (s i : ℕ)
@@ -51,5 +51,5 @@ gathered_small w counts items s (suc i) all l =
       chosen_small (has s i) (get_or counts i 0 * w) (drop (before counts i * w) items),
       length-append (members (bytes_by w counts items) i s) (cond (has s i) (bytes_by w counts items i) []),
       ap (λ n. n * w) (before_next counts i),
-      add_mul (before counts i) (get_or counts i 0) w,
+      add-mul (before counts i) (get_or counts i 0) w,
     )

@@ -1,0 +1,7 @@
+use Rattle.formula.proofs.Vectors.{vectors_lawful}
+use Rattle.formula.proofs.Graphs.{graphs_lawful}
+use Rattle.formula.proofs.Thresholds.{thresholds_lawful}
+use Rattle.formula.proofs.formulas_are_polymatroids.Goals as goal
+
+pub returns : goal.returns
+returns c = record { vectors = vectors_lawful; graphs = graphs_lawful; thresholds = thresholds_lawful }
