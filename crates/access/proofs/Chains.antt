@@ -1,7 +1,7 @@
 -- Antichains, and lists of allowed sets: a test of a whole list, one set at a time. Assumes nothing.
-use Rattle.std.proofs.Common.{◌≡◌, ℕ, zero, suc, ◌+◌, ◌-◌, ◌<◌, ◌≤◌, Bool, true, false, not, ◌&&◌, ◌||◌, eqb, ltb, List, [], ◌∷◌, length, get_or, drop, Decides, sym, refl, ap, ◌∙◌, inl, inr, arith}
+use Rattle.std.proofs.Common.{◌≡◌, ℕ, zero, suc, ◌+◌, ◌-◌, ◌<◌, ◌≤◌, Bool, true, false, not, ◌&&◌, eqb, ltb, List, [], ◌∷◌, length, get_or, drop, Decides, sym, refl, ap, ◌∙◌, inl, inr, arith}
 use lib.Bits.{bit_and}
-use Rattle.std.specs.List.{AllByRecursion as All}
+use Rattle.std.specs.List.{AllByRecursion}
 use Rattle.std.proofs.lemmas.List.{at_drop_more, at_drop_all, get_or-drop, length-drop}
 use Rattle.std.proofs.lemmas.Bool.{and_parts, and_from, and_cases, and_left, lt-ltb, or_parts, or_from, not-true, not_from_false, ne_eqb, cases_lt, cases_eq, both_ways, false≢true}
 use Rattle.std.proofs.lemmas.Bool.Decides.{Decides-and, Decides-not, Decides-eqb}
@@ -19,7 +19,7 @@ and_pass false y p = absurd (false≢true p)
 abbrev pub allowed_set : ℕ → ℕ → Bool
 allowed_set n a = coalition n a && not (eqb a 0)
 
-pub allowed_decides : (n : ℕ) (sets : List ℕ) → Decides (allowed n sets) (All (λ a. Coalition n a × (a ≡ 0 → ⊥)) sets)
+pub allowed_decides : (n : ℕ) (sets : List ℕ) → Decides (allowed n sets) (AllByRecursion (λ a. Coalition n a × (a ≡ 0 → ⊥)) sets)
 allowed_decides n =
     Decides-by_and (allowed_set n) (λ a. Coalition n a × (a ≡ 0 → ⊥)) (allowed n)
     (λ a. Decides-and (coalition n a) (not (eqb a 0)) (coalition_decides n a) (Decides-not (eqb a 0) (Decides-eqb a 0))) refl (λ _ _. refl)

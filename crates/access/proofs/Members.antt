@@ -4,7 +4,7 @@ use lib.Arith.{bin_ind}
 use lib.Bits.{bit_and, and_step, and_zero_r, and_high}
 use lib.Pow.{shr_mod}
 use Rattle.std.proofs.lemmas.Nat.{and_mask}
-use Rattle.polymatroid.specs.Sets.{secret, InGround, Within, Coalition, everyone}
+use Rattle.polymatroid.specs.Sets.{InGround, Within, Coalition, everyone}
 
 -- a set of the secret and 7 or more participants may have any byte as its code
 pub byte_in_ground : (n a : ℕ) → 7 ≤ n → a < 256 → InGround n a

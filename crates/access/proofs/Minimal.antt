@@ -1,7 +1,7 @@
 -- The table of the qualified coalitions, from the minimal ones. Assumes nothing.
 use Rattle.std.proofs.Common.{◌≡◌, ℕ, ◌+◌, ◌*◌, ◌/◌, ◌<◌, ◌≤◌, Bool, true, false, not, ◌&&◌, ◌||◌, eqb, List, [], ◌∷◌, length, get_or, drop, sym, refl, ap, ◌∙◌, inl, inr, arith}
 use lib.Bits.{bit_and}
-use Rattle.std.specs.List.{AllByRecursion as All}
+use Rattle.std.specs.List.{AllByRecursion}
 use Rattle.std.proofs.lemmas.List.FromFn.{get_or-map-range_with_len}
 use Rattle.std.proofs.lemmas.List.{at_drop_more, at_drop_all}
 use Rattle.std.proofs.lemmas.Bool.{or_cases, or_left, or_right, or_from, and_from, and_left, and_right, not_from_true, not_from_false, eq-eqb, ne_eqb, true≢false}
@@ -40,12 +40,12 @@ module _ (sets : List ℕ) (a i : ℕ) where
 
 -- ---- the laws of an access structure
 module _ (n : ℕ) where
-  pub contains_none : (sets : List ℕ) → All (λ a. Coalition n a × (a ≡ 0 → ⊥)) sets → contains_one sets 0 ≡ false
+  pub contains_none : (sets : List ℕ) → AllByRecursion (λ a. Coalition n a × (a ≡ 0 → ⊥)) sets → contains_one sets 0 ≡ false
   contains_none [] all = refl
   contains_none (s ∷ sets) all =
       or_from (within s 0) (contains_one sets 0) (ne_eqb (bit_and s 0) s (λ w. all.0.1 (within_empty s w))) (contains_none sets all.1)
 
-  pub contains_all : (sets : List ℕ) → 1 ≤ length sets → All (λ a. Coalition n a × (a ≡ 0 → ⊥)) sets → contains_one sets (everyone n) ≡ true
+  pub contains_all : (sets : List ℕ) → 1 ≤ length sets → AllByRecursion (λ a. Coalition n a × (a ≡ 0 → ⊥)) sets → contains_one sets (everyone n) ≡ true
   contains_all [] l all = absurd (omega arith)
   contains_all (s ∷ sets) l all =
       or_left (within s (everyone n)) (contains_one sets (everyone n)) ((within_decides s (everyone n)).1 (within_everyone n s all.0.0))

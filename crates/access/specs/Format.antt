@@ -1,7 +1,7 @@
 -- The record of an access structure: mark, number of participants, number of minimal qualified sets, the sets.
 -- Assumes nothing.
-use Rattle.std.specs.Prelude.{◌≡◌, ℕ, ◌+◌, ◌<◌, ◌≤◌, Bool, true, not, ◌&&◌, ◌||◌, List, [], ◌∷◌, ◌++◌, length, take, drop, Ok, Err, Decides, Result, ◌==◌, ◌≢◌, nat_le, slice_index}
-use Rattle.std.specs.List.{ContainsAt as Has, AllByRecursion as All}
+use Rattle.std.specs.Prelude.{◌≡◌, ℕ, ◌+◌, ◌<◌, ◌≤◌, Bool, true, not, ◌&&◌, ◌||◌, List, [], ◌∷◌, ◌++◌, length, take, drop, Ok, Decides, Result, ◌==◌, ◌≢◌, nat_le, slice_index}
+use Rattle.std.specs.List.{ContainsAt as Has, AllByRecursion}
 use Rattle.polymatroid.specs.Sets.{Within, Coalition}
 use Rattle.polymatroid.specs.Tests.{within, coalition}
 use Rattle.record.specs.declared.faults.Reason.{Reason}
@@ -66,7 +66,7 @@ pub record LawfulSets (n : ℕ) (sets : List ℕ) : Type 0 where
   pub few : n ≤ 7
   pub listed : 1 ≤ length sets
   pub most : length sets ≤ 35
-  pub coalitions : All (λ a. Coalition n a × (a ≢ 0)) sets
+  pub coalitions : AllByRecursion (λ a. Coalition n a × (a ≢ 0)) sets
   pub incomparable : (i j : ℕ) → i < length sets → j < length sets → (i ≢ j) → Within (slice_index sets i) (slice_index sets j) → ⊥
 
 -- of n participants, the coalitions that contain one of the sets are qualified, and no others

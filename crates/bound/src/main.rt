@@ -6,6 +6,7 @@ use access::{AccessStructure, read_structure};
 use anyhow::anyhow;
 use certificate::Header;
 use record::Refusal;
+use std::process::ExitCode;
 use std::{env, fs, io};
 use verdict::{lower_bound, read_header};
 
@@ -103,6 +104,9 @@ fn run(rt: &HostRuntime) -> anyhow::Result<()> {
 }
 
 // What is wrong with the arguments or the files has been said where it was found.
-fn main(rt: HostRuntime) -> anyhow::Result<()> {
-    run(&rt)
+fn main(rt: HostRuntime) -> ExitCode {
+    match run(&rt) {
+        Ok(()) => ExitCode::SUCCESS,
+        Err(_) => ExitCode::FAILURE,
+    }
 }

@@ -1,13 +1,11 @@
 -- Certificates come out of exactly their own records, are taken exactly when right, and then bind. Assumes nothing.
-use Rattle.std.proofs.Common.{◌≡◌, ℕ, zero, suc, ◌+◌, ◌*◌, ◌^◌, ◌<◌, ◌≤◌, Bool, true, false, ◌||◌, eqb, ◌⊎◌, List, [], ◌∷◌, ◌++◌, length, take, drop, ℤ, pos, negsuc, Ok, Err, Result, sym, refl, ap, ◌∙◌, subst, ap₂, inl, inr, arith}
-use Rattle.std.specs.List.{AllByRecursion as All, flat_map}
+use Rattle.std.proofs.Common.{◌≡◌, ℕ, ◌+◌, ◌*◌, ◌^◌, ◌<◌, ◌≤◌, Bool, true, eqb, List, ◌++◌, drop, ℤ, pos, negsuc, Ok, Result, sym, refl, ap, ◌∙◌, subst, ap₂, inl, inr, arith}
+use Rattle.std.specs.List.{flat_map}
 use Rattle.std.proofs.lemmas.List.{take-append-drop}
 use Rattle.std.proofs.ByRecursion.{All-drop}
 use Rattle.std.proofs.lemmas.Bool.{eqb-true, eq-eqb, or_cases, or_left, or_right, cases_eq, false≢true}
 use Rattle.polymatroid.specs.Sets.{InGround}
-use Rattle.polymatroid.specs.Tests.{all_below}
-use Rattle.polymatroid.specs.Inequality.{Lawful}
-use Rattle.polymatroid.specs.Certificate.{sum_to, combination, claim, coefficient, Matches, LowerBound}
+use Rattle.polymatroid.specs.Certificate.{sum_to, combination, coefficient, Matches, LowerBound}
 use Rattle.polymatroid.specs.declared.inequality.Line.{Line}
 use Rattle.polymatroid.proofs.Decides.{below_each, all_pass}
 use Rattle.polymatroid.proofs.Soundness.{sound}
@@ -20,7 +18,7 @@ use Rattle.certificate.specs.declared.header.Header.{Header}
 use Rattle.certificate.specs.Lines.{lines_of, encode_line}
 use Rattle.certificate.specs.Format.{Certificate, certificate, weight_of, total_of, header_in, header_of, certificate_of, LawfulHeader, LawfulCertificate, encode_header, encode}
 use Rattle.certificate.specs.Judge.{equal, agree_at, agree, claimed, adds_up, judge}
-use Rattle.certificate.specs.Theorems.{HeadReadExactly, HeadsReadExactly, ReadExactly, ReadsExactly, Right, TakenExactly, TakesExactly, TrustedBound, Trusted}
+use Rattle.certificate.specs.Theorems.{HeadsReadExactly, ReadsExactly, Right, TakesExactly, Trusted}
 use Rattle.certificate.proofs.Lawful.{LinesRead, lines_read}
 use Rattle.certificate.proofs.Written.{lines_taken}
 use Rattle.certificate.proofs.Heads.{HeadRead, head_read, head_lawful, head_encoded, head_taken, head_dropped}

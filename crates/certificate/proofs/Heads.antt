@@ -1,13 +1,12 @@
 -- A head that is read is lawful and stands in the bytes; the bytes of a lawful head are read as that head.
 -- Assumes nothing.
-use Rattle.std.proofs.Common.{◌≡◌, ℕ, zero, suc, ◌+◌, ◌-◌, ◌*◌, ◌/◌, ◌%◌, ◌^◌, ◌<◌, ◌≤◌, Bool, true, false, cond, ◌&&◌, eqb, ltb, leb, ◌⊎◌, List, [], ◌∷◌, ◌++◌, length, get_or, take, drop, replicate, Ok, Err, Result, sym, refl, ap, ◌∙◌, subst, ap₂, inl, inr, arith, take-add}
-use Rattle.std.specs.List.{AllByRecursion as All, flat_map}
-use Rattle.std.proofs.lemmas.List.{length-append, length-replicate, length-take-le, length-drop, get_or-append_right, get_or-replicate, get_or_past, take_at, drop_at, append_assoc, take-append-drop, ext_get_or, get_or-drop}
-use Rattle.std.proofs.ByRecursion.{All-append, All-drop, All-from_get_or, All-take}
-use Rattle.std.proofs.lemmas.Bool.{ltb-true, leb-true, eqb-true, and_parts, and_from, lt-ltb, le-leb, eq-eqb, cases_lt, false≢true}
-use Rattle.record.specs.declared.faults.Reason.{Reason}
+use Rattle.std.proofs.Common.{◌≡◌, ℕ, zero, suc, ◌+◌, ◌-◌, ◌*◌, ◌<◌, ◌≤◌, ◌&&◌, eqb, ltb, leb, List, [], ◌∷◌, ◌++◌, length, get_or, take, drop, replicate, Ok, sym, refl, ap, ◌∙◌, subst, ap₂, arith, take-add}
+use Rattle.std.specs.List.{AllByRecursion, flat_map}
+use Rattle.std.proofs.lemmas.List.{length-append, length-replicate, length-take-le, length-drop, get_or-append_right, take_at, drop_at, append_assoc, take-append-drop, ext_get_or, get_or-drop}
+use Rattle.std.proofs.ByRecursion.{All-append, All-drop}
+use Rattle.std.proofs.lemmas.Bool.{ltb-true, leb-true, eqb-true, and_parts, and_from, lt-ltb, le-leb, eq-eqb}
 use Rattle.record.specs.declared.faults.Reason.TheVariants.{CutShort, WrongMark, OutOfRange, ParticipantsDiffer}
-use Rattle.record.specs.Reading.{tried, holds, byte, two, four, marked, two_bytes, four_bytes, Bytes}
+use Rattle.record.specs.Reading.{holds, byte, two, four, marked, two_bytes, four_bytes, Bytes}
 use Rattle.record.proofs.Trying.{tried_ok, tried_pass, ok_same}
 use Rattle.record.proofs.Stored.{two_stored, two_back, four_stored, four_back, two_small, four_small, two_drop, four_drop}
 use Rattle.certificate.specs.declared.header.Header.{Header}
@@ -18,7 +17,7 @@ pub length_numbers : (k : ℕ) (bytes : List ℕ) → length (numbers k bytes) �
 length_numbers zero bytes = refl
 length_numbers (suc k) bytes = ap suc (length_numbers k (drop 2 bytes))
 
-numbers_small : (k : ℕ) (bytes : List ℕ) → Bytes bytes → All (λ w. w < 65536) (numbers k bytes)
+numbers_small : (k : ℕ) (bytes : List ℕ) → Bytes bytes → AllByRecursion (λ w. w < 65536) (numbers k bytes)
 numbers_small zero bytes bs = tt
 numbers_small (suc k) bytes bs = (two_small bytes 0 bs, numbers_small k (drop 2 bytes) (All-drop (λ b. b < 256) 2 bytes bs))
 
@@ -40,7 +39,7 @@ numbers_back [] rest = refl
 numbers_back (w ∷ ws) rest = ap₂ (λ (u : ℕ) (v : List ℕ). u ∷ v) (two_back w) (numbers_back ws rest)
 
 -- ---- zeros
-zeros_small : (k : ℕ) → All (λ w. w < 65536) (replicate k 0)
+zeros_small : (k : ℕ) → AllByRecursion (λ w. w < 65536) (replicate k 0)
 zeros_small zero = tt
 zeros_small (suc k) = (omega arith, zeros_small k)
 

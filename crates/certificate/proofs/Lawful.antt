@@ -1,14 +1,12 @@
 -- What a line that is read says: it is lawful, its multiplier is in range, and the six bytes are its own.
 -- Assumes nothing.
-use Rattle.std.proofs.Common.{◌≡◌, ℕ, zero, suc, ◌+◌, ◌*◌, ◌/◌, ◌%◌, ◌^◌, ◌<◌, ◌≤◌, Bool, true, false, cond, not, ◌&&◌, eqb, ltb, leb, List, [], ◌∷◌, ◌++◌, length, take, drop, ℤ, pos, negsuc, neg_ℤ, ◌≤ℤ◌, Ok, Err, Result, sym, refl, ap, ◌∙◌, subst, ap₂, arith, w16, to_z, of_z}
-use lib.Signed.{lt_z}
-use Rattle.std.specs.List.{AllByRecursion as All, flat_map}
+use Rattle.std.proofs.Common.{◌≡◌, ℕ, zero, suc, ◌+◌, ◌*◌, ◌<◌, ◌≤◌, Bool, true, false, cond, not, ◌&&◌, eqb, ltb, leb, List, [], ◌∷◌, ◌++◌, length, take, drop, ℤ, pos, negsuc, ◌≤ℤ◌, Ok, Err, Result, sym, refl, ap, ◌∙◌, subst, ap₂, arith, w16, to_z}
+use Rattle.std.specs.List.{AllByRecursion, flat_map}
 use Rattle.std.proofs.lemmas.Int.{ints, of_z-to_z}
 use Rattle.std.proofs.lemmas.List.{take-append-drop, nil_from_length}
 use Rattle.std.proofs.ByRecursion.{All-drop}
 use Rattle.std.proofs.lemmas.Bool.{ltb-true, leb-true, eqb-true, and_parts, not-true, eqb-false, false≢true}
 use Rattle.std.proofs.lemmas.Bool.Decides.{not_from_Decides}
-use Rattle.polymatroid.specs.Sets.{secret, InGround, Within, Coalition}
 use Rattle.polymatroid.specs.Tests.{in_ground, within, coalition}
 use Rattle.polymatroid.specs.Inequality.{LawfulAt, Lawful}
 use Rattle.polymatroid.specs.declared.inequality.Inequality.{Inequality}
@@ -17,12 +15,11 @@ use Rattle.polymatroid.specs.declared.inequality.Line.{Line}
 use Rattle.polymatroid.proofs.Decides.{ground_decides, within_decides, coalition_decides}
 use Rattle.record.specs.declared.faults.Reason.{Reason}
 use Rattle.record.specs.declared.faults.Reason.TheVariants.{CutShort, WrongMark, OutOfRange, SetNotAllowed, Unlawful, LeftOver}
-use Rattle.record.specs.declared.faults.RecordFault.{RecordFault}
 use Rattle.record.specs.Faults.{outside, in_line, of_line}
 use Rattle.record.specs.Reading.{tried, and_then, refused_as, holds, byte, two, marked, two_bytes, Bytes}
 use Rattle.record.proofs.Stored.{two_stored}
 use Rattle.record.proofs.Trying.{never, tried_ok, and_then_ok, refused_as_ok, ok_same}
-use Rattle.certificate.specs.Lines.{monotonicity_mark, submodularity_mark, correctness_mark, privacy_mark, multiplier_limit, InRange, usable, positive, line, monotonicity, submodularity, correctness, privacy, body, line_of, numbered_line, lines_of, stored, encode_at, encode_line}
+use Rattle.certificate.specs.Lines.{monotonicity_mark, submodularity_mark, correctness_mark, privacy_mark, multiplier_limit, InRange, usable, positive, line, monotonicity, submodularity, correctness, privacy, line_of, numbered_line, lines_of, stored, encode_at, encode_line}
 
 -- ---- the multiplier
 pub usable_range : (limit : ℕ) (m : ℤ) → usable limit m ≡ true → InRange limit m × (m ≡ pos 0 → ⊥)
@@ -164,8 +161,8 @@ module _ (n : ℕ) (qualified : ℕ → Bool) where
 
 pub record LinesRead (n : ℕ) (qualified : ℕ → Bool) (k : ℕ) (bytes : List ℕ) (ls : List Line) : Type 0 where
   pub number : length ls ≡ k
-  pub lawful : All (Lawful n qualified) ls
-  pub ranged : All (λ l. InRange multiplier_limit l.multiplier) ls
+  pub lawful : AllByRecursion (Lawful n qualified) ls
+  pub ranged : AllByRecursion (λ l. InRange multiplier_limit l.multiplier) ls
   pub encoded : Bytes bytes → bytes ≡ flat_map encode_line ls
 
 module _ (n : ℕ) (qualified : ℕ → Bool) where
@@ -191,5 +188,5 @@ module _ (n : ℕ) (qualified : ℕ → Bool) where
       subst (LinesRead n qualified (suc k) bytes) (ok_same (a.0 ∷ b.0) ls b.2)
       (one_more k bytes a.0 b.0 (line_read n qualified bytes a.0 r) (lines_read k (i + 1) (drop 6 bytes) b.0 b.1))
 
-  pub lines_lawful : (k i : ℕ) (bytes : List ℕ) (ls : List Line) → lines_of n qualified k i bytes ≡ Ok ls → All (Lawful n qualified) ls
+  pub lines_lawful : (k i : ℕ) (bytes : List ℕ) (ls : List Line) → lines_of n qualified k i bytes ≡ Ok ls → AllByRecursion (Lawful n qualified) ls
   lines_lawful k i bytes ls p = (lines_read k i bytes ls p).lawful

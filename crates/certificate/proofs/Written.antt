@@ -1,9 +1,8 @@
 -- The bytes of a lawful line are read as that line. Assumes nothing.
-use Rattle.std.proofs.Common.{◌≡◌, ℕ, zero, suc, ◌+◌, ◌*◌, ◌/◌, ◌%◌, ◌^◌, ◌<◌, ◌≤◌, Bool, true, false, cond, not, ◌&&◌, eqb, ltb, leb, List, [], ◌∷◌, ◌++◌, length, take, drop, ℤ, pos, negsuc, neg_ℤ, ◌≤ℤ◌, Ok, Err, Result, sym, refl, ap, ◌∙◌, subst, ap₂, arith, w16, SFits, to_z, of_z}
-use lib.Signed.{lt_z}
-use Rattle.std.specs.List.{AllByRecursion as All, flat_map}
+use Rattle.std.proofs.Common.{◌≡◌, ℕ, zero, suc, ◌+◌, ◌*◌, ◌/◌, ◌%◌, ◌<◌, ◌≤◌, Bool, true, not, ◌&&◌, eqb, ltb, leb, List, [], ◌∷◌, ◌++◌, length, drop, ℤ, pos, negsuc, ◌≤ℤ◌, Ok, Result, refl, ap, ◌∙◌, arith, w16, SFits, to_z, of_z}
+use Rattle.std.specs.List.{AllByRecursion, flat_map}
 use Rattle.std.proofs.lemmas.Int.{ints, to_z-of_z}
-use Rattle.std.proofs.lemmas.Bool.{lt-ltb, le-leb, eq-eqb, ne_eqb, and_from, not_from_false, false≢true, cases_Bool}
+use Rattle.std.proofs.lemmas.Bool.{lt-ltb, le-leb, ne_eqb, and_from, not_from_false}
 use Rattle.polymatroid.specs.Sets.{Within}
 use Rattle.polymatroid.specs.Tests.{in_ground, within, coalition}
 use Rattle.polymatroid.specs.Inequality.{LawfulAt, Lawful}
@@ -12,13 +11,13 @@ use Rattle.polymatroid.specs.declared.inequality.Inequality.TheVariants.{Monoton
 use Rattle.polymatroid.specs.declared.inequality.Line.{Line}
 use Rattle.polymatroid.proofs.Decides.{ground_decides, within_decides, coalition_decides}
 use Rattle.record.specs.declared.faults.Reason.{Reason}
-use Rattle.record.specs.declared.faults.Reason.TheVariants.{CutShort, WrongMark, OutOfRange, SetNotAllowed, Unlawful, LeftOver}
+use Rattle.record.specs.declared.faults.Reason.TheVariants.{CutShort, OutOfRange, SetNotAllowed, Unlawful}
 use Rattle.record.specs.declared.faults.RecordFault.{RecordFault}
-use Rattle.record.specs.Faults.{outside, in_line, of_line}
-use Rattle.record.specs.Reading.{tried, and_then, refused_as, holds, byte, two, marked, two_bytes}
+use Rattle.record.specs.Faults.{in_line, of_line}
+use Rattle.record.specs.Reading.{tried, and_then, refused_as, holds}
 use Rattle.record.proofs.Stored.{two_back}
 use Rattle.record.proofs.Trying.{tried_pass}
-use Rattle.certificate.specs.Lines.{multiplier_limit, InRange, usable, positive, line, monotonicity, submodularity, correctness, privacy, line_of, numbered_line, lines_of, encode_at, encode_line}
+use Rattle.certificate.specs.Lines.{multiplier_limit, InRange, usable, positive, line, monotonicity, submodularity, correctness, privacy, line_of, lines_of, encode_at, encode_line}
 
 -- ---- the multiplier
 range_usable : (limit : ℕ) (m : ℤ) → InRange limit m → (m ≡ pos 0 → ⊥) → usable limit m ≡ true
@@ -101,7 +100,7 @@ module _ (n : ℕ) (qualified : ℕ → Bool) where
       ap (λ r. and_then (lines_of n qualified k (i + 1) r) (λ ls. Ok (l ∷ ls))) d ∙
       ap (λ r. and_then {E = RecordFault} r (λ ls. Ok (l ∷ ls))) q
 
-  pub lines_taken : (i : ℕ) (ls : List Line) → All (Lawful n qualified) ls → All (λ l. InRange multiplier_limit l.multiplier) ls → lines_of n qualified (length ls) i (flat_map encode_line ls) ≡ Ok ls
+  pub lines_taken : (i : ℕ) (ls : List Line) → AllByRecursion (Lawful n qualified) ls → AllByRecursion (λ l. InRange multiplier_limit l.multiplier) ls → lines_of n qualified (length ls) i (flat_map encode_line ls) ≡ Ok ls
   lines_taken i [] lawful ranged = refl
   lines_taken i (l ∷ ls) lawful ranged =
       after_line (length ls) i (encode_line l ++ flat_map encode_line ls) (flat_map encode_line ls) l ls

@@ -1,6 +1,6 @@
 -- The certificate record: mark, number of participants, weights, count, number of lines, the lines. Assumes nothing.
-use Rattle.std.specs.Prelude.{◌≡◌, ℕ, zero, suc, ◌+◌, ◌-◌, ◌*◌, ◌^◌, ◌<◌, ◌≤◌, Bool, ◌&&◌, List, [], ◌∷◌, ◌++◌, length, take, drop, replicate, Ok, Err, Result, ◌==◌, nat_le, nat_lt, slice_index}
-use Rattle.std.specs.List.{AllByRecursion as All, flat_map}
+use Rattle.std.specs.Prelude.{◌≡◌, ℕ, zero, suc, ◌+◌, ◌-◌, ◌*◌, ◌^◌, ◌<◌, ◌≤◌, Bool, ◌&&◌, List, [], ◌∷◌, ◌++◌, length, take, drop, replicate, Ok, Result, ◌==◌, nat_le, nat_lt, slice_index}
+use Rattle.std.specs.List.{AllByRecursion, flat_map}
 use Rattle.polymatroid.specs.Certificate.{sum_to}
 use Rattle.polymatroid.specs.Inequality.{Lawful}
 use Rattle.polymatroid.specs.declared.inequality.Line.{Line}
@@ -72,7 +72,7 @@ pub record LawfulHeader (n : ℕ) (h : Header) : Type 0 where
   pub some : 1 ≤ n
   pub few : n ≤ 7
   pub sized : length h.weights ≡ 7
-  pub small : All (λ w. w < 65536) h.weights
+  pub small : AllByRecursion (λ w. w < 65536) h.weights
   pub beyond : (k : ℕ) → n ≤ k → slice_index h.weights k ≡ 0
   pub weighed : 1 ≤ total_of h
   pub counted : 1 ≤ h.count
@@ -83,8 +83,8 @@ pub record LawfulHeader (n : ℕ) (h : Header) : Type 0 where
 pub record LawfulCertificate (n : ℕ) (qualified : ℕ → Bool) (c : Certificate) : Type 0 where
   pub head : LawfulHeader n c.header
   pub number : length c.lines ≡ c.header.lines
-  pub lawful : All (Lawful n qualified) c.lines
-  pub stored : All (λ l. InRange multiplier_limit l.multiplier) c.lines
+  pub lawful : AllByRecursion (Lawful n qualified) c.lines
+  pub stored : AllByRecursion (λ l. InRange multiplier_limit l.multiplier) c.lines
 
 -- the record of a certificate
 abbrev pub encode_header : Header → List ℕ

@@ -1,8 +1,7 @@
 -- The judgement on a certificate record. Assumes nothing.
-use Rattle.std.specs.Prelude.{ℕ, ◌+◌, ◌^◌, Bool, false, ◌||◌, List, ℤ, pos, negsuc, Ok, Err, Result, ◌==◌}
+use Rattle.std.specs.Prelude.{ℕ, ◌+◌, ◌^◌, Bool, false, ◌||◌, List, ℤ, pos, negsuc, Ok, Result, ◌==◌}
 use Rattle.polymatroid.specs.Tests.{all_below}
 use Rattle.polymatroid.specs.Certificate.{combination, claim, coefficient}
-use Rattle.polymatroid.specs.declared.inequality.Line.{Line}
 use Rattle.record.specs.declared.faults.Reason.TheVariants.{SumDiffers}
 use Rattle.record.specs.declared.faults.RecordFault.{RecordFault}
 use Rattle.record.specs.Faults.{outside}

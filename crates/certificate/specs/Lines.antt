@@ -1,5 +1,5 @@
 -- A line of a certificate record: mark, multiplier, first set, second set, six bytes together. Assumes nothing.
-use Rattle.std.specs.Prelude.{ℕ, zero, suc, ◌+◌, Bool, true, false, cond, not, ◌&&◌, List, [], ◌∷◌, ◌++◌, length, drop, ℤ, pos, negsuc, neg_ℤ, ◌≤ℤ◌, Ok, Err, Result, ◌==◌, int_lt, nat_le, nat_lt}
+use Rattle.std.specs.Prelude.{ℕ, zero, suc, ◌+◌, Bool, cond, not, ◌&&◌, List, [], ◌∷◌, ◌++◌, length, drop, ℤ, pos, negsuc, neg_ℤ, ◌≤ℤ◌, Ok, Err, Result, ◌==◌, int_lt, nat_le, nat_lt}
 use Rattle.std.proofs.Common.{to_z, of_z}
 use Rattle.std.specs.Int.{w16}
 use Rattle.polymatroid.specs.Tests.{in_ground, within, coalition}

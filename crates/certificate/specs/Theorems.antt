@@ -1,7 +1,6 @@
 -- What is true of certificate records. Assumes nothing.
-use Rattle.std.specs.Prelude.{◌≡◌, ℕ, ◌+◌, ◌*◌, ◌≤◌, Bool, List, take, Ok, Result}
+use Rattle.std.specs.Prelude.{◌≡◌, ℕ, ◌+◌, ◌*◌, ◌≤◌, Bool, List, take, Ok}
 use Rattle.polymatroid.specs.Certificate.{Matches, LowerBound}
-use Rattle.record.specs.declared.faults.RecordFault.{RecordFault}
 use Rattle.record.specs.Reading.{Bytes}
 use Rattle.certificate.specs.declared.header.Header.{Header}
 use Rattle.certificate.specs.Format.{Certificate, weight_of, total_of, header_of, certificate_of, LawfulHeader, LawfulCertificate, encode_header, encode}

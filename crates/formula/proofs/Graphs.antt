@@ -1,18 +1,18 @@
 -- The number of nodes minus the number of parts under a set's edges is a polymatroid. Assumes nothing.
-use Rattle.std.proofs.Common.{◌≡◌, ℕ, zero, suc, ◌+◌, ◌-◌, ◌*◌, ◌<◌, ◌≤◌, List, [], ◌∷◌, length, get_or, sym, subst, inl, inr, not-suc-le-zero, arith}
+use Rattle.std.proofs.Common.{◌≡◌, ℕ, zero, suc, ◌+◌, ◌-◌, ◌*◌, ◌<◌, List, [], ◌∷◌, length, get_or, sym, subst, not-suc-le-zero, arith}
 use mathlib.Core.List.Memᴰ
 use mathlib.Core.List.{Memᴰ}
-use Rattle.std.specs.List.{AllByRecursion as All}
+use Rattle.std.specs.List.{AllByRecursion}
 use Rattle.polymatroid.specs.Polymatroid.{Polymatroid}
 use Rattle.matroid.specs.Members.{members}
 use Rattle.graph.specs.Graph.{Edge, parts, Inside}
 use Rattle.graph.proofs.Parts.{parts_polymatroid}
-use Rattle.formula.specs.Holding.{total, before, items_from, held_by, held_by_all, LawfulHolding}
+use Rattle.formula.specs.Holding.{before, items_from, held_by, LawfulHolding}
 use Rattle.formula.specs.Graphs.{edge_at}
 use Rattle.formula.specs.Theorems.{GraphsPolymatroid}
 use Rattle.formula.proofs.Gathering.{items_within}
 
-each : (v : ℕ) (xs : List ℕ) (k : ℕ) → All (λ b. b < v) xs → k < length xs → get_or xs k 0 < v
+each : (v : ℕ) (xs : List ℕ) (k : ℕ) → AllByRecursion (λ b. b < v) xs → k < length xs → get_or xs k 0 < v
 each v [] k h l = absurd (not-suc-le-zero l)
 each v (x ∷ xs) zero h l = h.0
 each v (x ∷ xs) (suc k) h l = each v xs k h.1 (omega arith)

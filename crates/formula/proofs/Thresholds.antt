@@ -1,11 +1,11 @@
 -- The smaller of a threshold and a weight is a polymatroid. Assumes nothing.
-use Rattle.std.proofs.Common.{◌≡◌, ℕ, zero, suc, ◌+◌, ◌≤◌, min, Bool, true, false, cond, ◌&&◌, ◌||◌, T, List, sym, refl, ap, ◌∙◌, subst, ap₂, inl, inr, arith}
+use Rattle.std.proofs.Common.{◌≡◌, ℕ, zero, suc, ◌+◌, ◌≤◌, min, Bool, true, false, cond, T, List, sym, refl, subst, inl, inr, arith}
 use lib.Bits.{bit_and, bit_or}
 use Rattle.polymatroid.specs.Sets.{Within}
 use Rattle.polymatroid.specs.Polymatroid.{Polymatroid}
 use Rattle.matroid.specs.Members.{has}
 use Rattle.matroid.proofs.Bits.{bit_and_left, bit_and_right, bit_or_left, bit_or_right, bit_or_cases, bit_zero, bit_and_both}
-use Rattle.formula.specs.Thresholds.{weight_at, weight_below, threshold_ranks}
+use Rattle.formula.specs.Thresholds.{weight_at, weight_below}
 use Rattle.formula.specs.Theorems.{ThresholdsPolymatroid}
 
 -- an element is in a union or an intersection as often as in the two sets

@@ -1,7 +1,7 @@
 -- What the elements of a ground set hold: items that stand one after another, the secret's first, then participant 1's and
 -- so on, and how many there are of each. Assumes nothing.
 use Rattle.std.specs.Prelude.{◌≡◌, ℕ, zero, suc, ◌+◌, ◌*◌, ◌<◌, ◌≤◌, List, [], ◌∷◌, length, take, drop, slice_index}
-use Rattle.std.specs.List.{AllByRecursion as All}
+use Rattle.std.specs.List.{AllByRecursion}
 use Rattle.matroid.specs.Members.{members}
 
 abbrev pub total : List ℕ → ℕ
@@ -37,4 +37,4 @@ pub record LawfulHolding (n width limit : ℕ) (counts items : List ℕ) : Type 
   pub counted : length counts ≡ n + 1
   pub most : total counts ≤ 32
   pub sized : length items ≡ total counts * width
-  pub below : All (λ b. b < limit) items
+  pub below : AllByRecursion (λ b. b < limit) items

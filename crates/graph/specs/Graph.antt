@@ -1,6 +1,6 @@
 -- Graphs as lists of edges between numbered nodes: paths, a test for them that computes, and the number of connected parts.
 -- Assumes nothing.
-use Rattle.std.specs.Prelude.{◌≡◌, Bool, true, false, cond, not, ◌||◌, ◌&&◌, ℕ, zero, suc, ◌+◌, ◌<◌, T, eqb}
+use Rattle.std.specs.Prelude.{◌≡◌, Bool, cond, not, ◌||◌, ◌&&◌, ℕ, zero, suc, ◌+◌, ◌<◌, T, eqb}
 use mathlib.Core.List.{List, [], ◌∷◌, Memᴰ}
 use Rattle.polymatroid.specs.Tests.{all_below}
 

@@ -1,10 +1,10 @@
 -- The claim's coefficients, set by set. Assumes nothing.
-use Rattle.std.proofs.Common.{◌≡◌, ℕ, zero, suc, ◌+◌, ◌^◌, ◌<◌, ◌≤◌, eqb, ◌⊎◌, ℤ, pos, ◌+ℤ◌, ◌-ℤ◌, ◌*ℤ◌, neg_ℤ, sym, refl, ap, ◌∙◌, inl, inr, arith}
+use Rattle.std.proofs.Common.{◌≡◌, ℕ, zero, suc, ◌≤◌, ℤ, pos, ◌+ℤ◌, ◌-ℤ◌, ◌*ℤ◌, neg_ℤ, sym, refl, ap, ◌∙◌, inl, inr, arith}
 use Rattle.std.proofs.lemmas.Int.{ints}
 use Rattle.std.proofs.lemmas.Nat.{pow_below}
 use Rattle.std.proofs.lemmas.Bool.{eq-eqb, ne_eqb, cases_order}
 use Rattle.polymatroid.specs.Sets.{secret, alone}
-use Rattle.polymatroid.specs.Certificate.{sum_to_ℤ, unit, claim, coefficient, Claimed, Claims}
+use Rattle.polymatroid.specs.Certificate.{sum_to_ℤ, unit, Claims}
 
 apart : (i j : ℕ) → (i ≡ j → ⊥) → alone i ≡ alone j → ⊥
 apart i j ne e = elim (cases_order i j) [

@@ -1,12 +1,12 @@
 -- The lines' forms are linear, and at least 0 at every polymatroid that realises the access structure. Assumes nothing.
-use Rattle.std.proofs.Common.{◌≡◌, ℕ, zero, suc, ◌+◌, ◌*◌, ◌^◌, ◌<◌, ◌≤◌, Bool, true, false, List, [], ◌∷◌, ℤ, pos, ◌+ℤ◌, ◌-ℤ◌, ◌*ℤ◌, ◌≤ℤ◌, sym, refl, ap, ◌∙◌, ap₂, arith}
+use Rattle.std.proofs.Common.{◌≡◌, ℕ, zero, suc, ◌+◌, ◌*◌, ◌^◌, ◌<◌, ◌≤◌, Bool, List, [], ◌∷◌, ℤ, pos, ◌+ℤ◌, ◌-ℤ◌, ◌*ℤ◌, ◌≤ℤ◌, refl, ap, ◌∙◌, ap₂, arith}
 use lib.Bits.{bit_and, bit_or, or_lt, and_lt}
 use lib.IntN.{*ℤ-zero}
 use lib.Signed.{≤ℤ_refl}
-use Rattle.std.specs.List.{AllByRecursion as All}
+use Rattle.std.specs.List.{AllByRecursion}
 use Rattle.std.proofs.lemmas.Int.{ints}
 use Rattle.std.proofs.lemmas.Nat.{pow_below}
-use Rattle.polymatroid.specs.Sets.{secret, alone, InGround, Within, Coalition}
+use Rattle.polymatroid.specs.Sets.{secret, alone, InGround}
 use Rattle.polymatroid.specs.Polymatroid.{Polymatroid}
 use Rattle.polymatroid.specs.Realising.{Realises}
 use Rattle.polymatroid.specs.declared.inequality.Inequality.{Inequality}
@@ -83,7 +83,7 @@ module _ (n : ℕ) (qualified : ℕ → Bool) where
       (at_form _ (bit_or a secret) (or_lt (n + 1) a secret l.0.0 (secret_in n))) (at_form _ a l.0.0))
       (at_form _ secret (secret_in n))
 
-  pub combination_form : (ls : List Line) → All (Lawful n qualified) ls → Form (2 ^ (n + 1)) (combination ls)
+  pub combination_form : (ls : List Line) → AllByRecursion (Lawful n qualified) ls → Form (2 ^ (n + 1)) (combination ls)
   combination_form [] all = no_form _
   combination_form (l ∷ ls) all =
       sum_form _ (λ x. l.multiplier *ℤ form l.inequality x) (combination ls)
@@ -129,7 +129,7 @@ module _ (n : ℕ) (qualified : ℕ → Bool) (h : ℕ → ℕ) (p : Polymatroid
   line_value k (Correctness a) l = nothing k (value (Correctness a) h) ((lines_hold n qualified h).correct r k a l)
   line_value k (Privacy a) l = nothing k (value (Privacy a) h) ((lines_hold n qualified h).private r k a l)
 
-  pub combination_value : (ls : List Line) → All (Lawful n qualified) ls → pos 0 ≤ℤ combination ls (λ s. pos (h s))
+  pub combination_value : (ls : List Line) → AllByRecursion (Lawful n qualified) ls → pos 0 ≤ℤ combination ls (λ s. pos (h s))
   combination_value [] all = ≤ℤ_refl (pos 0)
   combination_value (l ∷ ls) all =
       added (l.multiplier *ℤ form l.inequality (λ s. pos (h s))) (combination ls (λ s. pos (h s)))

@@ -1,14 +1,9 @@
 -- Why a right certificate binds. Assumes nothing.
-use Rattle.std.proofs.Common.{◌≡◌, ℕ, zero, suc, ◌+◌, ◌*◌, ◌^◌, ◌<◌, ◌≤◌, Bool, ◌⊎◌, List, ℤ, pos, ◌-ℤ◌, ◌≤ℤ◌, sym, refl, ap, ◌∙◌, subst, inl, inr, add-mul, mul-le-mul_left, arith}
-use Rattle.std.specs.List.{AllByRecursion as All}
+use Rattle.std.proofs.Common.{◌≡◌, ℕ, zero, suc, ◌+◌, ◌*◌, ◌^◌, ◌≤◌, pos, ◌-ℤ◌, ◌≤ℤ◌, ap, ◌∙◌, subst, inl, inr, add-mul, mul-le-mul_left, arith}
 use Rattle.std.proofs.lemmas.Int.{ints}
 use Rattle.std.proofs.lemmas.Bool.{cases_lt}
 use Rattle.polymatroid.specs.Sets.{secret, alone}
-use Rattle.polymatroid.specs.Polymatroid.{Polymatroid}
-use Rattle.polymatroid.specs.Realising.{Realises}
-use Rattle.polymatroid.specs.declared.inequality.Line.{Line}
-use Rattle.polymatroid.specs.Inequality.{Lawful}
-use Rattle.polymatroid.specs.Certificate.{sum_to, combination, claim, Matches, Weighted, Sound}
+use Rattle.polymatroid.specs.Certificate.{sum_to, combination, claim, Weighted, Sound}
 use Rattle.polymatroid.proofs.Forms.{agree}
 use Rattle.polymatroid.proofs.Lines.{combination_form, combination_value, claim_form, claim_value}
 

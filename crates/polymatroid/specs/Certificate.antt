@@ -1,6 +1,6 @@
 -- What the lines of a certificate add up to, what the certificate claims, and why a right one binds. Assumes nothing.
 use Rattle.std.specs.Prelude.{◌≡◌, ℕ, zero, suc, ◌+◌, ◌*◌, ◌≤◌, Bool, cond, List, [], ◌∷◌, ℤ, pos, ◌+ℤ◌, ◌-ℤ◌, ◌*ℤ◌, neg_ℤ, ◌==◌, ◌≢◌}
-use Rattle.std.specs.List.{AllByRecursion as All}
+use Rattle.std.specs.List.{AllByRecursion}
 use Rattle.polymatroid.specs.Sets.{secret, alone, InGround}
 use Rattle.polymatroid.specs.Polymatroid.{Polymatroid}
 use Rattle.polymatroid.specs.Realising.{Realises}
@@ -42,10 +42,10 @@ LowerBound n qualified count total = (h : ℕ → ℕ) → Polymatroid n h → R
 
 -- a certificate with lawful lines that add up to its claim bounds the weighted sum of the shares, and so the largest
 abbrev pub Weighted : Type 0
-Weighted = (n : ℕ) (qualified : ℕ → Bool) (weight : ℕ → ℕ) (count : ℕ) (lines : List Line) → All (Lawful n qualified) lines → Matches n weight count lines → (h : ℕ → ℕ) → Polymatroid n h → Realises n qualified h → count * h secret ≤ sum_to n (λ i. weight i * h (alone i))
+Weighted = (n : ℕ) (qualified : ℕ → Bool) (weight : ℕ → ℕ) (count : ℕ) (lines : List Line) → AllByRecursion (Lawful n qualified) lines → Matches n weight count lines → (h : ℕ → ℕ) → Polymatroid n h → Realises n qualified h → count * h secret ≤ sum_to n (λ i. weight i * h (alone i))
 
 abbrev pub Sound : Type 0
-Sound = (n : ℕ) (qualified : ℕ → Bool) (weight : ℕ → ℕ) (count : ℕ) (lines : List Line) → 1 ≤ n → All (Lawful n qualified) lines → Matches n weight count lines → LowerBound n qualified count (sum_to n weight)
+Sound = (n : ℕ) (qualified : ℕ → Bool) (weight : ℕ → ℕ) (count : ℕ) (lines : List Line) → 1 ≤ n → AllByRecursion (Lawful n qualified) lines → Matches n weight count lines → LowerBound n qualified count (sum_to n weight)
 
 -- what the claim's coefficients are: minus the count at the secret, weight i at participant i, 0 at every other set
 pub record Claimed (n : ℕ) (weight : ℕ → ℕ) (count : ℕ) (at : ℕ → ℤ) : Type 0 where

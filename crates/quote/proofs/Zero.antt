@@ -1,5 +1,5 @@
 -- Only a bound is answered by 0. Assumes nothing.
-use Rattle.std.proofs.Common.{◌≡◌, ℕ, ◌≤◌, List, Ok, Err, Result, sym, refl, ◌∙◌, arith}
+use Rattle.std.proofs.Common.{◌≡◌, ℕ, ◌≤◌, List, Ok, Err, Result, refl, arith}
 use Rattle.record.specs.declared.faults.Reason.{Reason}
 use Rattle.record.specs.declared.faults.Reason.TheVariants.{CutShort, WrongMark, OutOfRange, SetNotAllowed, NotAntichain, Unlawful, SumDiffers, LeftOver, ParticipantsDiffer}
 use Rattle.record.specs.declared.faults.Refusal.{Refusal}

@@ -1,13 +1,13 @@
 -- The test of realising decides it, and the largest share is found. Assumes nothing.
-use Rattle.std.proofs.Common.{◌≡◌, ℕ, zero, suc, ◌+◌, ◌-◌, ◌*◌, ◌/◌, ◌^◌, ◌<◌, ◌≤◌, max, Bool, true, false, cond, ◌&&◌, eqb, leb, Decides, sym, refl, ap, ◌∙◌, subst, inl, inr, arith, pow_pos, pow-add}
-use lib.Bits.{bit_and, bit_or}
+use Rattle.std.proofs.Common.{◌≡◌, ℕ, zero, suc, ◌+◌, ◌*◌, ◌/◌, ◌^◌, ◌<◌, ◌≤◌, Bool, true, false, cond, leb, sym, ap, ◌∙◌, subst, inl, inr, arith, pow-add}
+use lib.Bits.{bit_or}
 use Rattle.std.proofs.lemmas.Nat.{and_mask}
-use Rattle.std.proofs.lemmas.Bool.{and_parts, and_from, cases_Bool, cases_eq, cases_lt, eq-eqb, eqb-true, le-leb, leb-true, false≢true}
-use Rattle.polymatroid.specs.Sets.{secret, alone, InGround, Coalition}
+use Rattle.std.proofs.lemmas.Bool.{and_parts, and_from, cases_Bool, cases_eq, cases_lt, eq-eqb, eqb-true, le-leb, leb-true}
+use Rattle.polymatroid.specs.Sets.{secret, alone, Coalition}
 use Rattle.polymatroid.specs.Tests.{all_below}
 use Rattle.polymatroid.specs.Realising.{Realises}
 use Rattle.polymatroid.proofs.Decides.{below_each, all_pass}
-use Rattle.realising.specs.Realised.{realised_at, realises, largest_share, LargestShare, RealisingDecided, LargestFound}
+use Rattle.realising.specs.Realised.{realised_at, realises, largest_share, RealisingDecided, LargestFound}
 
 -- the coalitions of n participants are the codes 2 k with k below 2 ^ n
 pub halved : (n a : ℕ) → Coalition n a → (a / 2 < 2 ^ n) × (2 * (a / 2) ≡ a)

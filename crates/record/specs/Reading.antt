@@ -1,7 +1,7 @@
 -- Words for reading a record: a test with the refusal that it gives, one step after another, fields at an offset, and
 -- how numbers are stored. Assumes nothing.
 use Rattle.std.specs.Prelude.{ℕ, ◌+◌, ◌*◌, ◌/◌, ◌%◌, ◌<◌, Bool, cond, ◌&&◌, List, [], ◌∷◌, length, Ok, Err, Result, ◌==◌, nat_le, slice_index}
-use Rattle.std.specs.List.{AllByRecursion as All}
+use Rattle.std.specs.List.{AllByRecursion}
 use Rattle.record.specs.declared.faults.Reason.{Reason}
 use Rattle.record.specs.declared.faults.Reason.TheVariants.{CutShort}
 
@@ -48,4 +48,4 @@ abbrev pub four_bytes : ℕ → List ℕ
 four_bytes v = v / 16777216 ∷ v / 65536 % 256 ∷ v / 256 % 256 ∷ v % 256 ∷ []
 
 abbrev pub Bytes : List ℕ → Type 0
-Bytes = All (λ b. b < 256)
+Bytes = AllByRecursion (λ b. b < 256)

@@ -5,7 +5,7 @@ use mathlib.Core.List.{Memᴰ}
 use native.Mathlib.Decide.{dec_le}
 use Rattle.field.specs.Laws.{Ops, Lawful, code}
 use Rattle.field.proofs.Free as free
-use Rattle.span.specs.Span.{Vector, combination, InSpan}
+use Rattle.span.specs.Span.{Vector, InSpan}
 use Rattle.span.specs.Dimension.{minus}
 use Rattle.span.proofs.Combinations.{with, comb_code, zero_add, comb_zero, comb_none, comb_first, comb_add, comb_scale}
 

@@ -1,27 +1,24 @@
 -- Two records give a bound exactly if they are those of minimal qualified sets and of a right certificate for them.
 -- Assumes nothing.
-use Rattle.std.proofs.Common.{◌≡◌, ℕ, ◌+◌, ◌<◌, ◌≤◌, Bool, true, false, List, [], ◌∷◌, ℤ, Ok, Err, Result, sym, refl, ap, ◌∙◌, subst, ap₂}
+use Rattle.std.proofs.Common.{◌≡◌, ℕ, Bool, List, ℤ, Ok, sym, ap, ◌∙◌, subst}
 use Rattle.std.proofs.ByRecursion.{All-weaker}
 use Rattle.polymatroid.specs.Sets.{Coalition}
 use Rattle.polymatroid.specs.Realising.{Realises}
 use Rattle.polymatroid.specs.Inequality.{LawfulAt, Lawful}
-use Rattle.polymatroid.specs.Certificate.{LowerBound}
 use Rattle.polymatroid.specs.declared.inequality.Inequality.{Inequality}
 use Rattle.polymatroid.specs.declared.inequality.Inequality.TheVariants.{Monotonicity, Submodularity, Correctness, Privacy}
-use Rattle.record.specs.declared.faults.RecordFault.{RecordFault}
-use Rattle.record.specs.declared.faults.Refusal.{Refusal}
 use Rattle.record.specs.Faults.{outside, unnamed}
 use Rattle.record.specs.Reading.{and_then, refused_as, Bytes}
 use Rattle.record.proofs.Trying.{and_then_ok, refused_as_ok, ok_same}
 use Rattle.access.specs.Table.{qualified_by, contains_one, table_of}
-use Rattle.access.specs.Format.{listed_in, structure_in, LawfulSets, encode_sets}
+use Rattle.access.specs.Format.{listed_in, structure_in, LawfulSets}
 use Rattle.access.proofs.Minimal.{qualified_coalition}
 use Rattle.access.proofs.Records.{read_exactly}
 use Rattle.certificate.specs.Format.{Certificate, LawfulCertificate}
 use Rattle.certificate.specs.Judge.{judge}
 use Rattle.certificate.specs.Theorems.{Right, TrustedBound}
 use Rattle.certificate.proofs.Exact.{takes_exactly, trusted}
-use Rattle.verdict.specs.Bounds.{lower_bound_in, Proves, ProvedExactly, Bound, Bounds}
+use Rattle.verdict.specs.Bounds.{lower_bound_in, ProvedExactly, Bounds}
 
 -- ---- what is said of an access structure depends on its coalitions alone
 module _ (n : ℕ) (q r : ℕ → Bool) (same : (a : ℕ) → Coalition n a → q a ≡ r a) where

@@ -2,7 +2,7 @@
 use Rattle.std.proofs.Common.{◌≡◌, ℕ, zero, suc, ◌+◌, ◌-◌, ◌*◌, ◌^◌, ◌<◌, ◌≤◌, Bool, true, false, ◌&&◌, ◌||◌, eqb, List, [], ◌∷◌, length, get_or, take, drop, replicate, ℤ, pos, ◌+ℤ◌, ◌-ℤ◌, ◌*ℤ◌, neg_ℤ, Ok, Err, Result, sym, refl, ap, ◌∙◌, subst, ap₂, inl, inr, arith, pow_mono}
 use lib.Bits.{bit_and, bit_or, or_lt, and_le_l}
 use lib.IntN.{+ℤ_idl, +ℤ_assoc}
-use Rattle.std.specs.List.{AllByRecursion as All}
+use Rattle.std.specs.List.{AllByRecursion}
 use Rattle.std.proofs.lemmas.Int.{ints}
 use Rattle.std.proofs.lemmas.Bool.{cases_eq, eq-eqb, ne_eqb}
 use Rattle.std.proofs.lemmas.List.{get_or-set_same, get_or-set_other, length-set, get_or-replicate, take_rest}
@@ -90,7 +90,7 @@ abbrev zeros : List ℤ
 zeros = replicate 256 (pos 0)
 
 module _ (n : ℕ) (few : n ≤ 7) (qualified : ℕ → Bool) where
-  lines_added : {s : ℕ} {t : List ℤ} {z : ℤ} (ls : List Line) → All (Lawful n qualified) ls → Holds s t z →
+  lines_added : {s : ℕ} {t : List ℤ} {z : ℤ} (ls : List Line) → AllByRecursion (Lawful n qualified) ls → Holds s t z →
       get_or (add_lines t ls) s (pos 0) ≡ z +ℤ combination ls (unit s)
   lines_added {s} {t} {z} [] all k = k.here ∙ nothing z
     where
@@ -100,7 +100,7 @@ module _ (n : ℕ) (few : n ≤ 7) (qualified : ℕ → Bool) where
       lines_added {t = add_line t l} ls all.1 (form_added n few qualified l.multiplier l.inequality all.0 k) ∙
       +ℤ_assoc z (l.multiplier *ℤ form l.inequality (unit s)) (combination ls (unit s))
 
-  coefficients : (s : ℕ) (ls : List Line) → InGround n s → All (Lawful n qualified) ls → coefficient (combination ls) s ≡ get_or (add_lines zeros ls) s (pos 0)
+  coefficients : (s : ℕ) (ls : List Line) → InGround n s → AllByRecursion (Lawful n qualified) ls → coefficient (combination ls) s ≡ get_or (add_lines zeros ls) s (pos 0)
   coefficients s ls l all =
       let empty : Holds s zeros (pos 0) = record { long = refl; here = get_or-replicate 256 s (pos 0) (pos 0) (in_table n few qualified s l) } in
       sym (lines_added ls all empty ∙ +ℤ_idl (combination ls (unit s)))
@@ -140,11 +140,11 @@ abbrev by_table : Header → List ℤ → Result (ℕ × ℕ) RecordFault
 by_table h t = tried (settled h t) (outside SumDiffers) (Ok (h.count, total_of h))
 
 module _ (qualified : ℕ → Bool) (h : Header) (few : h.participants ≤ 7) where
-  settles : (ls : List Line) → All (Lawful h.participants qualified) ls → adds_up (certificate h ls) ≡ settled h (add_lines zeros ls)
+  settles : (ls : List Line) → AllByRecursion (Lawful h.participants qualified) ls → adds_up (certificate h ls) ≡ settled h (add_lines zeros ls)
   settles ls all =
       same_below (2 ^ (h.participants + 1)) _ _ (λ s l. ap (λ z. eqb s 0 || equal z (claimed h s)) (coefficients h.participants few qualified s ls l all))
 
-  alike : (r : Result (List Line) RecordFault) → ((ls : List Line) → r ≡ Ok ls → All (Lawful h.participants qualified) ls) →
+  alike : (r : Result (List Line) RecordFault) → ((ls : List Line) → r ≡ Ok ls → AllByRecursion (Lawful h.participants qualified) ls) →
       and_then {E = RecordFault} (and_then r (λ ls. Ok (certificate h ls))) by_lines ≡ and_then {E = RecordFault} (and_then r (λ ls. Ok (add_lines zeros ls))) (by_table h)
   alike (Ok ls) lawful = ap (λ b. tried b (outside SumDiffers) (Ok (h.count, total_of h))) (settles ls (lawful ls refl))
   alike (Err f) lawful = refl

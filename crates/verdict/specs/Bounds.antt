@@ -1,5 +1,5 @@
 -- The lower bound that two records prove: an access structure's and a certificate's. Assumes nothing.
-use Rattle.std.specs.Prelude.{◌≡◌, ℕ, List, Ok, Err, Result}
+use Rattle.std.specs.Prelude.{◌≡◌, ℕ, List, Ok, Result}
 use Rattle.record.specs.declared.faults.Refusal.{Refusal}
 use Rattle.record.specs.Faults.{unnamed}
 use Rattle.record.specs.Reading.{and_then, refused_as}

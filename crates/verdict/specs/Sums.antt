@@ -1,5 +1,5 @@
 -- The table of coefficients in which the lines are added up. Assumes nothing.
-use Rattle.std.specs.Prelude.{ℕ, zero, suc, ◌+◌, ◌*◌, ◌<◌, Bool, List, length, get_or, drop, set, ℤ, pos, ◌+ℤ◌, neg_ℤ, ◌≤ℤ◌, Ok, Err, Result, ◌==◌, bit_and, bit_or, slice_index_or, slice_set}
+use Rattle.std.specs.Prelude.{ℕ, zero, suc, ◌+◌, ◌*◌, ◌<◌, Bool, List, length, get_or, drop, ℤ, pos, ◌+ℤ◌, neg_ℤ, ◌≤ℤ◌, Ok, Result, ◌==◌, bit_and, bit_or, slice_index_or, slice_set}
 use Rattle.polymatroid.specs.Sets.{secret}
 use Rattle.polymatroid.specs.declared.inequality.Inequality.{Inequality}
 use Rattle.polymatroid.specs.declared.inequality.Inequality.TheVariants.{Monotonicity, Submodularity, Correctness, Privacy}
