@@ -55,10 +55,10 @@ impl From<Reason> for Refusal {
     ghost from_gives = { λ x y. y ≡ refused x };
 
     fn from(reason: Reason) -> Refusal {
-        let unnamed = 0;
+        let entry = 0;
         Refusal {
             reason,
-            entry: unnamed,
+            entry,
             line: 0,
         }
     }
