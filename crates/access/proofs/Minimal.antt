@@ -1,21 +1,16 @@
 -- The table of the qualified coalitions, from the minimal ones. Assumes nothing.
-use Rattle.std.proofs.Common.{◌≡◌, ℕ, ◌+◌, ◌*◌, ◌/◌, ◌<◌, ◌≤◌, Bool, true, false, not, ◌&&◌, ◌||◌, eqb, List, [], ◌∷◌, length, get_or, drop, sym, refl, ap, ◌∙◌, inl, inr, arith}
+use Rattle.std.proofs.Common.{◌≡◌, ℕ, ◌*◌, ◌/◌, ◌<◌, ◌≤◌, Bool, true, false, not, ◌&&◌, eqb, List, [], ◌∷◌, length, get_or, sym, refl, ap, ◌∙◌, inl, inr, arith}
 use lib.Bits.{bit_and}
-use Rattle.std.specs.List.{AllByRecursion}
+use Rattle.std.specs.List.{AllByRecursion, list_all, range_with_len}
 use Rattle.std.proofs.lemmas.List.FromFn.{get_or-map-range_with_len}
-use Rattle.std.proofs.lemmas.List.{at_drop_more, at_drop_all}
-use Rattle.std.proofs.lemmas.Bool.{or_cases, or_left, or_right, or_from, and_from, and_left, and_right, not_from_true, not_from_false, eq-eqb, ne_eqb, true≢false}
+use Rattle.std.proofs.lemmas.Bool.{or_cases, or_left, or_right, or_from, and_from, and_left, and_right, not_from_true, not_from_false, eq-eqb, ne_eqb}
 use Rattle.polymatroid.specs.Sets.{Within, Coalition, everyone}
 use Rattle.polymatroid.specs.Tests.{within, all_below}
 use Rattle.polymatroid.specs.Realising.{IsAccessStructure}
-use Rattle.polymatroid.proofs.Decides.{within_decides, all_pass, one_fails}
+use Rattle.polymatroid.proofs.Decides.{within_decides, all_pass, upwards}
 use Rattle.access.specs.Table.{qualified_by, contains_one, table_of, smaller_by, minimal_by}
 use Rattle.access.specs.Format.{LawfulSets}
 use Rattle.access.proofs.Members.{ground_byte, within_trans, within_empty, within_everyone, coalition_even, everyone_coalition}
-
-or_pass : (x y : Bool) → x ≡ false → y ≡ (x || y)
-or_pass true y p = absurd (true≢false p)
-or_pass false y p = refl
 
 pub contains_up : (sets : List ℕ) (a b : ℕ) → Within a b → contains_one sets a ≡ true → contains_one sets b ≡ true
 contains_up [] a b w h = h
@@ -24,19 +19,6 @@ contains_up (s ∷ sets) a b w h =
       | inl p ↦ or_left (within s b) (contains_one sets b) ((within_decides s b).1 (within_trans s a b w ((within_decides s a).0 p)))
       | inr p ↦ or_right (within s b) (contains_one sets b) (contains_up sets a b w p)
     ]
-
--- ---- one set after another
-module _ (sets : List ℕ) (a i : ℕ) where
-  pub contains_found : i < length sets → within (get_or sets i 0) a ≡ true → true ≡ contains_one (drop i sets) a
-  contains_found l p =
-      sym (at_drop_more (λ xs. contains_one xs a) sets i 0 l ∙ or_left (within (get_or sets i 0) a) (contains_one (drop (i + 1) sets) a) p)
-
-  pub contains_passed : i < length sets → within (get_or sets i 0) a ≡ false → contains_one (drop (i + 1) sets) a ≡ contains_one (drop i sets) a
-  contains_passed l f =
-      or_pass (within (get_or sets i 0) a) (contains_one (drop (i + 1) sets) a) f ∙ sym (at_drop_more (λ xs. contains_one xs a) sets i 0 l)
-
-  pub contains_end : length sets ≤ i → false ≡ contains_one (drop i sets) a
-  contains_end l = sym (at_drop_all (λ xs. contains_one xs a) sets i l)
 
 -- ---- the laws of an access structure
 module _ (n : ℕ) where
@@ -102,9 +84,9 @@ and_rest : (x y : Bool) → true ≡ y → x ≡ (x && y)
 and_rest true y p = p
 and_rest false y p = refl
 
-pub not_minimal : (table : List Bool) (a k : ℕ) → k < 128 → not_smaller table a k ≡ false → false ≡ minimal_by table a
-not_minimal table a k l f =
-    sym (and_right (qualified_by table a) (all_below 128 (not_smaller table a)) (sym (one_fails 128 (not_smaller table a) k l f)))
+-- of a qualified coalition, that no other within it is qualified makes it minimal
+pub minimal_from_least : (table : List Bool) (a : ℕ) (r : Bool) → qualified_by table a ≡ true → r ≡ list_all (not_smaller table a) (range_with_len 0 128) → r ≡ minimal_by table a
+minimal_from_least table a r q e = e ∙ upwards 128 (not_smaller table a) ∙ sym (ap (λ x. x && all_below 128 (not_smaller table a)) q)
 
 pub minimal_from_all : (table : List Bool) (a : ℕ) → ((k : ℕ) → k < 128 → not_smaller table a k ≡ true) → qualified_by table a ≡ minimal_by table a
 minimal_from_all table a h = and_rest (qualified_by table a) (all_below 128 (not_smaller table a)) (all_pass 128 (not_smaller table a) h)

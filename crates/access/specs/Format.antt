@@ -1,7 +1,7 @@
 -- The record of an access structure: mark, number of participants, number of minimal qualified sets, the sets.
 -- Assumes nothing.
 use Rattle.std.specs.Prelude.{◌≡◌, ℕ, ◌+◌, ◌<◌, ◌≤◌, Bool, true, not, ◌&&◌, ◌||◌, List, [], ◌∷◌, ◌++◌, length, take, drop, Ok, Decides, Result, ◌==◌, ◌≢◌, nat_le, slice_index}
-use Rattle.std.specs.List.{ContainsAt as Has, AllByRecursion}
+use Rattle.std.specs.List.{ContainsAt as Has, AllByRecursion, list_all}
 use Rattle.polymatroid.specs.Sets.{Within, Coalition}
 use Rattle.polymatroid.specs.Tests.{within, coalition}
 use Rattle.record.specs.declared.faults.Reason.{Reason}
@@ -26,8 +26,7 @@ sets_in bytes = take (count_in bytes) (drop 4 bytes)
 
 -- each set is a coalition of the n participants, and none is empty
 abbrev pub allowed : ℕ → List ℕ → Bool
-allowed n [] = true
-allowed n (a ∷ sets) = (coalition n a && not (a == 0)) && allowed n sets
+allowed n sets = list_all (λ a. coalition n a && not (a == 0)) sets
 
 -- one of the sets contains or equals the other
 abbrev pub comparable : ℕ → ℕ → Bool
@@ -35,8 +34,7 @@ comparable a b = within a b || within b a
 
 -- a is comparable with none of the sets
 abbrev pub apart : ℕ → List ℕ → Bool
-apart a [] = true
-apart a (b ∷ sets) = not (comparable a b) && apart a sets
+apart a sets = list_all (λ b. not (comparable a b)) sets
 
 abbrev pub antichain : List ℕ → Bool
 antichain [] = true

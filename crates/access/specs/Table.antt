@@ -1,6 +1,6 @@
 -- The table of an access structure: the coalition with the code 2 k stands at k. Assumes nothing.
-use Rattle.std.specs.Prelude.{◌≡◌, ℕ, ◌*◌, ◌/◌, Bool, true, false, not, ◌&&◌, ◌||◌, List, [], ◌∷◌, map, ◌==◌, slice_index_or}
-use Rattle.std.specs.List.{range_with_len}
+use Rattle.std.specs.Prelude.{◌≡◌, ℕ, ◌*◌, ◌/◌, Bool, true, false, not, ◌&&◌, List, map, ◌==◌, slice_index_or}
+use Rattle.std.specs.List.{range_with_len, list_any}
 use Rattle.polymatroid.specs.Sets.{Within, Coalition}
 use Rattle.polymatroid.specs.Tests.{within, all_below}
 
@@ -10,8 +10,7 @@ qualified_by table a = slice_index_or table (a / 2) false
 
 -- whether a contains one of the sets
 abbrev pub contains_one : List ℕ → ℕ → Bool
-contains_one [] a = false
-contains_one (set ∷ sets) a = within set a || contains_one sets a
+contains_one sets a = list_any (λ set. within set a) sets
 
 -- a coalition is qualified exactly if it contains a minimal qualified set
 abbrev pub table_of : List ℕ → List Bool

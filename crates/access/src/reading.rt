@@ -1,5 +1,5 @@
 // The record of an access structure.
-ghost use Rattle.std.specs.Prelude.{◌≡◌, ℕ, ◌+◌, ◌<◌, ◌&&◌, List, length, drop, Ok, nat_lt, slice_index};
+ghost use Rattle.std.specs.Prelude.{◌≡◌, ℕ, List, Ok};
 ghost use Rattle.record.specs.Reading.{and_then};
 ghost use Rattle.access.specs.Format.{participants_in, sets_in, allowed, comparable, apart, antichain, listed_in, structure_in, LawfulSets, QualifiedExactly, MinimalExactly, ReadExactly};
 ghost use Rattle.access.specs.View.{viewed, ComesOutAt};
@@ -14,48 +14,31 @@ const MARK: [u8; 2] = [0x53, 0x54];
 fn are_allowed(n: u8, sets: &[u8]) -> bool
     ensures { result ≡ allowed n sets.now }
 {
-    for set in sets {
-        if !is_coalition(n, *set) || *set == 0 {
-            return false;
-        }
-    }
-    true
+    sets.iter().all(|set| is_coalition(n, *set) && *set != 0)
 }
 
-// Whether the set at `other` stands behind the one at `at`, and one of the two contains or equals the other.
-fn clashes(sets: &[u8], at: usize, other: usize) -> bool
-    requires { (at < length sets.now) × (other < length sets.now) }
-    ensures { result ≡ (nat_lt at other && comparable (slice_index sets.now at) (slice_index sets.now other)) }
+// Whether one of the sets contains or equals the other.
+fn are_comparable(a: u8, b: u8) -> bool
+    ensures { result ≡ comparable a b }
 {
-    if other <= at {
-        return false;
-    }
-    is_within(sets[at], sets[other]) || is_within(sets[other], sets[at])
+    is_within(a, b) || is_within(b, a)
 }
 
-// Whether the set at `at` is comparable with none of the sets behind it.
-fn is_apart(sets: &[u8], at: usize) -> bool
-    requires { at < length sets.now }
-    ensures { result ≡ apart (slice_index sets.now at) (drop (at + 1) sets.now) }
+// Whether the set is comparable with none of the others.
+fn is_apart(set: u8, others: &[u8]) -> bool
+    ensures { result ≡ apart set others.now }
 {
-    for other in 0..sets.len() {
-        if clashes(sets, at, other) {
-            return false;
-        }
-    }
-    true
+    others.iter().all(|other| !are_comparable(set, *other))
 }
 
 // Whether no set contains or equals another.
 fn is_antichain(sets: &[u8]) -> bool
     ensures { result ≡ antichain sets.now }
 {
-    for at in 0..sets.len() {
-        if !is_apart(sets, at) {
-            return false;
-        }
+    match sets {
+        [] => true,
+        [set, others @ ..] => is_apart(*set, others) && is_antichain(others),
     }
-    true
 }
 
 // Whether the bytes are the record of an access structure, or why not.
@@ -69,7 +52,7 @@ fn check(bytes: &[u8]) -> Result<(), Reason>
     need(bytes, 4)?;
     let n = bytes[2];
     let count = bytes[3];
-    if n < 1 || n > 7 || count < 1 || count > 35 {
+    if !matches!(n, 1..=7) || !matches!(count, 1..=35) {
         return Err(Reason::OutOfRange);
     }
     let end = usize::from(count) + 4;
@@ -96,16 +79,12 @@ pub fn read_structure(bytes: &[u8]) -> Result<AccessStructure, RecordFault>
 }
 
 // A list of sets comes out of exactly one record, its own, and only if it is lawful.
-pub fn records_read_exactly() -> u8
+pub fn records_read_exactly()
     ensures { (bytes : List ℕ) (n : ℕ) (sets : List ℕ) → ReadExactly bytes n sets }
-{
-    0
-}
+{}
 
 // Lawful sets are exactly the minimal coalitions of the access structure that they make.
-pub fn listed_sets_are_minimal() -> u8
+pub fn listed_sets_are_minimal()
     ensures qualified { (n : ℕ) (sets : List ℕ) → LawfulSets n sets → QualifiedExactly n sets }
     ensures minimal { (n : ℕ) (sets : List ℕ) → LawfulSets n sets → MinimalExactly n sets }
-{
-    0
-}
+{}

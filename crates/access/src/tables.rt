@@ -1,5 +1,6 @@
 // The table of the qualified coalitions.
-ghost use Rattle.std.specs.Prelude.{◌≡◌, ℕ, ◌*◌, ◌<◌, ◌≤◌, false, length, Decides, slice_index_or};
+ghost use Rattle.std.specs.Prelude.{◌≡◌, ℕ, ◌*◌, ◌<◌, ◌≤◌, false, not, length, Decides, slice_index_or};
+ghost use Rattle.std.specs.List.{list_all, range_with_len};
 ghost use Rattle.polymatroid.specs.Sets.{Coalition};
 ghost use Rattle.polymatroid.specs.Realising.{IsAccessStructure};
 ghost use Rattle.access.specs.Table.{contains_one, table_of, smaller_by, minimal_by, MinimalIn};
@@ -8,17 +9,13 @@ ghost use Rattle.access.specs.View.{participants_of, qualified_in};
 
 use crate::sets::is_within;
 use crate::structure::AccessStructure;
+use std::array;
 
 // Whether one of the sets lies within `a`.
 fn contains_one(sets: &[u8], a: u8) -> bool
     ensures { result ≡ contains_one sets.now a }
 {
-    for set in sets {
-        if is_within(*set, a) {
-            return true;
-        }
-    }
-    false
+    sets.iter().any(|set| is_within(*set, a))
 }
 
 // Of each coalition whether it contains one of the sets: the one with the code 2 k at k.
@@ -26,11 +23,7 @@ fn table_of(sets: &[u8]) -> [bool; 128]
     ensures sized { length result ≡ 128 }
     ensures each { (k : ℕ) → k < 128 → slice_index_or result k false ≡ contains_one sets.now (2 * k) }
 {
-    let mut table = [false; 128];
-    for k in 0u8..128 {
-        table[k as usize] = contains_one(sets, 2 * k);
-    }
-    table
+    array::from_fn(|k| contains_one(sets, 2 * k as u8))
 }
 
 impl AccessStructure {
@@ -70,16 +63,18 @@ impl AccessStructure {
         is_within(2 * k, set) && 2 * k != set && self.is_qualified(2 * k)
     }
 
+    // Whether no other coalition within the set is qualified.
+    fn is_least(&self, set: u8) -> bool
+        ensures { result ≡ list_all (λ k. not (smaller_by self.now.qualified set k)) (range_with_len 0 128) }
+    {
+        (0..128).all(|k| !self.is_smaller(k, set))
+    }
+
     // Whether the coalition is qualified and no other coalition within it is.
     pub fn is_minimal(&self, set: u8) -> bool
         ensures value { result ≡ minimal_by self.now.qualified set }
         ensures minimal { Coalition (participants_of self.now) set → Decides result (MinimalIn (participants_of self.now) (qualified_in self.now) set) }
     {
-        for j in 0u8..128 {
-            if self.is_smaller(j, set) {
-                return false;
-            }
-        }
-        self.is_qualified(set)
+        self.is_qualified(set) && self.is_least(set)
     }
 }

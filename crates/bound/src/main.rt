@@ -4,22 +4,21 @@
 
 use access::{AccessStructure, read_structure};
 use anyhow::anyhow;
-use certificate::Header;
 use record::Refusal;
 use std::process::ExitCode;
-use std::{env, fs, io};
+use std::{env, fmt, fs, io};
 use verdict::{lower_bound, read_header};
 
-// The participants of a coalition, as {1, 2}.
-fn print_coalition(rt: &HostRuntime, coalition: u8) -> io::Result<()> {
-    let mut before = "{";
-    for i in 1u8..8 {
-        if coalition & (1u8 << i) != 0 {
-            print!(rt; "{before}{i}")?;
-            before = ", ";
-        }
+// A coalition is printed as {1, 2}.
+#[derive(Clone, Copy)]
+struct Coalition(u8);
+
+impl fmt::Display for Coalition {
+    fn fmt<W: fmt::Write>(&self, f: &mut fmt::Formatter<W>) -> fmt::Result {
+        f.debug_set()
+            .entries((1u8..8).filter(|i| self.0 & (1u8 << *i) != 0))
+            .finish()
     }
-    print!(rt; "}}")
 }
 
 fn print_structure(rt: &HostRuntime, structure: &AccessStructure) -> io::Result<()> {
@@ -28,23 +27,13 @@ fn print_structure(rt: &HostRuntime, structure: &AccessStructure) -> io::Result<
         structure.participants()
     )?;
     print!(rt; "minimal qualified sets:")?;
-    for k in 1u8..128 {
-        if structure.is_minimal(2 * k) {
-            print!(rt; " ")?;
-            print_coalition(rt, 2 * k)?;
-        }
+    for set in (1u8..128)
+        .map(|k| 2 * k)
+        .filter(|set| structure.is_minimal(*set))
+    {
+        print!(rt; " {}", Coalition(set))?;
     }
     println!(rt; "")
-}
-
-fn print_header(rt: &HostRuntime, header: &Header) -> io::Result<()> {
-    let lines = header.lines;
-    print!(rt; "certificate: {lines} lines, weights")?;
-    for weight in header.weights.iter().take(header.participants as usize) {
-        print!(rt; " {weight}")?;
-    }
-    let count = header.count;
-    println!(rt; ", count {count}")
 }
 
 // What the records hold, as far as they can be read.
@@ -53,21 +42,16 @@ fn print_records(rt: &HostRuntime, rule: &[u8], certificate: &[u8]) -> io::Resul
         return Ok(());
     };
     print_structure(rt, &structure)?;
-    match read_header(&structure, certificate) {
-        Ok(header) => print_header(rt, &header),
-        Err(_) => Ok(()),
+    if let Ok(header) = read_header(&structure, certificate) {
+        println!(rt; "certificate: {header}")?;
     }
+    Ok(())
 }
 
 fn print_answer(rt: &HostRuntime, answer: Result<(u32, u32), Refusal>) -> io::Result<()> {
     match answer {
         Ok((count, total)) => println!(rt; "ok {count}/{total}"),
-        Err(refusal) => {
-            let number = refusal.reason.number();
-            let entry = refusal.entry;
-            let line = refusal.line;
-            println!(rt; "no {number} {entry} {line}")
-        }
+        Err(refusal) => println!(rt; "no {refusal}"),
     }
 }
 

@@ -1,5 +1,7 @@
 -- Worked cases over the definitions, in one list with one check. Assumes nothing.
-use Rattle.std.specs.Prelude.{◌≡◌, ℕ, Bool, true, false, not, ◌&&◌, List, [], ◌∷◌, Ok, Err, Result, ◌==◌}
+use Rattle.std.specs.Prelude.{◌≡◌, ℕ, Bool, true, false, not, ◌&&◌, List, [], ◌∷◌, Ok, Err, Result, Some, None, Option, ◌==◌, nat_eq}
+use Rattle.std.specs.Option.{is_none, option_eq}
+use Rattle.std.specs.List.{list_all}
 use Rattle.record.specs.declared.faults.RecordFault.{RecordFault}
 use Rattle.record.specs.declared.faults.Refusal.{Refusal}
 use Rattle.record.specs.Faults.{number_of}
@@ -17,8 +19,8 @@ pub data Case : Type 0 where
   Unqualified : (structure : List ℕ) (coalition : ℕ) → Case
   -- the two records prove the lower bound count over total
   Bounded : (structure certificate : List ℕ) (count total : ℕ) → Case
-  -- they are refused by this number, with this line
-  Refused : (structure certificate : List ℕ) (number line : ℕ) → Case
+  -- they are refused by this number, in this line or in none
+  Refused : (structure certificate : List ℕ) (number : ℕ) (line : Option ℕ) → Case
   -- in the field of order 4, 8 or 16 this is the product
   Multiplied : (order a b product : ℕ) → Case
 
@@ -34,9 +36,9 @@ abbrev pub is_bound : Result (ℕ × ℕ) Refusal → ℕ → ℕ → Bool
 is_bound (Ok b) count total = b.0 == count && b.1 == total
 is_bound (Err e) count total = false
 
-abbrev pub is_refused : Result (ℕ × ℕ) Refusal → ℕ → ℕ → Bool
+abbrev pub is_refused : Result (ℕ × ℕ) Refusal → ℕ → Option ℕ → Bool
 is_refused (Ok b) number line = false
-is_refused (Err e) number line = number_of e.reason == number && e.entry == 0 && e.line == line
+is_refused (Err e) number line = number_of e.reason == number && is_none e.entry && option_eq nat_eq e.line line
 
 abbrev pub holds : Case → Bool
 holds (Qualified structure a) = qualifies (structure_in structure) a
@@ -45,21 +47,17 @@ holds (Bounded structure certificate count total) = is_bound (lower_bound_in str
 holds (Refused structure certificate number line) = is_refused (lower_bound_in structure certificate) number line
 holds (Multiplied order a b product) = (binary_ops order).mul a b == product
 
-abbrev pub all_hold : List Case → Bool
-all_hold [] = true
-all_hold (c ∷ cs) = holds c && all_hold cs
-
 abbrev pub cases : List Case
 cases =
     Unqualified chain 0x0A
     ∷ Qualified chain 0x0E
     ∷ Bounded chain (chain_certificate 3 0x06) 3 2
-    ∷ Refused chain (chain_certificate 4 0x06) 7 0
-    ∷ Refused chain (chain_certificate 3 0x04) 6 4
+    ∷ Refused chain (chain_certificate 4 0x06) 7 None
+    ∷ Refused chain (chain_certificate 3 0x04) 6 (Some 4)
     ∷ Multiplied 16 2 8 3
     ∷ Multiplied 16 2 9 1
     ∷ Multiplied 8 2 5 1
     ∷ []
 
 abbrev pub CasesHold : Type 0
-CasesHold = all_hold cases ≡ true
+CasesHold = list_all holds cases ≡ true

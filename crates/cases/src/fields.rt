@@ -3,22 +3,12 @@ use field::Field;
 use galois::{Binary, Gf16, Prime};
 use std::process::Abort;
 
-// How products are found here.
-#[derive(Clone, Copy)]
-enum Reference {
-    // a added b times, each time less q where the sum has reached it
-    Sums { q: u8 },
-    // a times y, as often as it takes from 1 to b
-    Powers { q: u8 },
-}
-
+// a added b times, each time less q where the sum has reached it.
 fn by_sums(q: u8, a: u8, b: u8) -> u8 {
-    let mut sum: u8 = 0;
-    for _ in 0..b {
+    (0..b).fold(0u8, |sum, _| {
         let next = sum.wrapping_add(a);
-        sum = if next >= q { next - q } else { next };
-    }
-    sum
+        if next >= q { next - q } else { next }
+    })
 }
 
 // y times a, modulo y^m + y + 1, where q is 2^m.
@@ -45,30 +35,12 @@ fn by_powers(q: u8, a: u8, b: u8) -> u8 {
     0
 }
 
-fn product(reference: Reference, a: u8, b: u8) -> u8 {
-    match reference {
-        Reference::Sums { q } => by_sums(q, a, b),
-        Reference::Powers { q } => by_powers(q, a, b),
-    }
-}
-
 // Whether the products of a, and its inverse, are right.
-fn row_agrees<F: Field>(f: &F, reference: Reference, a: u8) -> bool {
-    for b in 0..f.order() {
-        if f.mul(a, b) != product(reference, a, b) {
-            return false;
-        }
-    }
-    product(reference, a, f.inv(a)) == if a == 0 { 0 } else { 1 }
-}
-
-fn agrees<F: Field>(f: &F, reference: Reference) -> bool {
-    for a in 0..f.order() {
-        if !row_agrees(f, reference, a) {
-            return false;
-        }
-    }
-    true
+fn row_agrees<F: Field, P: Fn(u8, u8) -> u8>(f: &F, product: &P, a: u8) -> bool
+    requires { P.IsAlwaysCallable product.now }
+{
+    (0..f.order()).all(|b| f.mul(a, b) == product(a, b))
+        && product(a, f.inv(a)) == if a == 0 { 0 } else { 1 }
 }
 
 // A byte of q or more counts as 0, and the inverse of 0 is 0.
@@ -81,26 +53,29 @@ fn keeps_conventions<F: Field>(rt: &impl Abort, f: &F, q: u8) {
     assert_eq!(rt; f.neg(q), 0);
 }
 
-fn holds<F: Field>(rt: &impl Abort, f: &F, reference: Reference, q: u8) {
-    assert_eq!(rt; agrees(f, reference), true);
+// The field of order q has these products.
+fn holds<F: Field, P: Fn(u8, u8) -> u8>(rt: &impl Abort, f: &F, q: u8, product: P)
+    requires { P.IsAlwaysCallable product }
+{
+    assert!(rt; (0..f.order()).all(|a| row_agrees(f, &product, a)));
     keeps_conventions(rt, f, q);
 }
 
 #[test]
 fn products_modulo_primes(rt: HostRuntime) {
-    holds(&rt, &Prime { q: 2 }, Reference::Sums { q: 2 }, 2);
-    holds(&rt, &Prime { q: 3 }, Reference::Sums { q: 3 }, 3);
-    holds(&rt, &Prime { q: 5 }, Reference::Sums { q: 5 }, 5);
-    holds(&rt, &Prime { q: 7 }, Reference::Sums { q: 7 }, 7);
-    holds(&rt, &Prime { q: 11 }, Reference::Sums { q: 11 }, 11);
-    holds(&rt, &Prime { q: 13 }, Reference::Sums { q: 13 }, 13);
+    holds(&rt, &Prime { q: 2 }, 2, |a, b| by_sums(2, a, b));
+    holds(&rt, &Prime { q: 3 }, 3, |a, b| by_sums(3, a, b));
+    holds(&rt, &Prime { q: 5 }, 5, |a, b| by_sums(5, a, b));
+    holds(&rt, &Prime { q: 7 }, 7, |a, b| by_sums(7, a, b));
+    holds(&rt, &Prime { q: 11 }, 11, |a, b| by_sums(11, a, b));
+    holds(&rt, &Prime { q: 13 }, 13, |a, b| by_sums(13, a, b));
 }
 
 #[test]
 fn products_of_polynomials(rt: HostRuntime) {
-    holds(&rt, &Binary { q: 4 }, Reference::Powers { q: 4 }, 4);
-    holds(&rt, &Binary { q: 8 }, Reference::Powers { q: 8 }, 8);
-    holds(&rt, &Gf16, Reference::Powers { q: 16 }, 16);
+    holds(&rt, &Binary { q: 4 }, 4, |a, b| by_powers(4, a, b));
+    holds(&rt, &Binary { q: 8 }, 8, |a, b| by_powers(8, a, b));
+    holds(&rt, &Gf16, 16, |a, b| by_powers(16, a, b));
 }
 
 #[test]

@@ -8,9 +8,9 @@ use std::process::Abort;
 fn codes(seed: u32) -> [u8; 512] {
     let mut m = [0; 512];
     let mut x = seed;
-    for i in 0..512 {
+    for code in &mut m {
         x = x.wrapping_mul(1_103_515_245).wrapping_add(12_345);
-        m[i] = (x / 65_536 % 16) as u8;
+        *code = (x / 65_536 % 16) as u8;
     }
     m
 }
@@ -18,6 +18,7 @@ fn codes(seed: u32) -> [u8; 512] {
 // 32 vectors of which each after the fifth is the sum of two before it.
 fn tied<F: Field>(f: &F, seed: u32) -> [u8; 512] {
     let mut m = codes(seed);
+    // By index: each code is made of two that stand before it in the same array, which no iterator lends.
     for i in 80..512 {
         m[i] = f.add(m[i - 80], m[i - 16]);
     }
@@ -26,11 +27,7 @@ fn tied<F: Field>(f: &F, seed: u32) -> [u8; 512] {
 
 // The rank of the vectors that the first codes are.
 fn rank_of_first<F: Field>(f: &F, m: &[u8; 512], codes: usize, width: usize) -> Option<u8> {
-    if codes <= 512 {
-        rank(f, &m[0..codes], width)
-    } else {
-        None
-    }
+    rank(f, m.get(..codes)?, width)
 }
 
 // No vectors, zero vectors, repeated vectors, unit vectors.

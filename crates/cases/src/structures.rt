@@ -5,10 +5,7 @@ use std::test::Fail;
 
 // The number of the refusal, or 0.
 fn refusal(bytes: &[u8]) -> u32 {
-    match read_structure(bytes) {
-        Ok(_) => 0,
-        Err(fault) => fault.reason.number(),
-    }
+    read_structure(bytes).map_or_else(|fault| fault.reason.number(), |_| 0)
 }
 
 #[test]

@@ -2,7 +2,7 @@
 #![tactic(auto)]
 
 ghost use Rattle.std.specs.Prelude.{◌≡◌};
-ghost use Rattle.field.specs.Laws.{Ops, Lawful};
+ghost use Rattle.field.specs.Laws.{Ops, Lawful, code};
 
 // A finite field whose elements are the codes 0 to q - 1. A byte of q or more counts as 0, and the inverse of 0 is 0.
 pub trait Field {
@@ -22,6 +22,13 @@ pub trait Field {
 
     fn inv(&self, a: u8) -> u8
         ensures { result ≡ (ops self.now).inv a };
+
+    // The code that a byte counts as.
+    fn code(&self, a: u8) -> u8
+        ensures { result ≡ code (ops self.now).order a }
+    {
+        if a < self.order() { a } else { 0 }
+    }
 
     ghost lawful: { (f : Self) → Lawful (ops f) };
 }

@@ -4,10 +4,8 @@
 ghost use Rattle.formula.specs.Theorems.{VectorsPolymatroid, GraphsPolymatroid, ThresholdsPolymatroid};
 
 // Each kind's rank function is a polymatroid.
-pub fn formulas_are_polymatroids() -> u8
+pub fn formulas_are_polymatroids()
     ensures vectors { VectorsPolymatroid }
     ensures graphs { GraphsPolymatroid }
     ensures thresholds { ThresholdsPolymatroid }
-{
-    0
-}
+{}

@@ -1,6 +1,8 @@
 -- The tests of sets and coalitions decide what they are named for. Assumes nothing.
-use Rattle.std.proofs.Common.{◌≡◌, ℕ, zero, suc, ◌+◌, ◌^◌, ◌<◌, Bool, true, false, eqb, Decides, sym, refl, ◌∙◌, inl, inr, arith}
+use Rattle.std.proofs.Common.{◌≡◌, ℕ, zero, suc, ◌+◌, ◌^◌, ◌<◌, Bool, true, false, ◌&&◌, [], ◌∷◌, ◌++◌, eqb, ap, Decides, sym, refl, ◌∙◌, inl, inr, arith}
 use lib.Bits.{bit_and}
+use Rattle.std.specs.List.{list_all, range_with_len}
+use Rattle.std.proofs.lemmas.List.Folds.{list_all-append}
 use Rattle.std.proofs.lemmas.Bool.Decides.{Decides-ltb, Decides-eqb, Decides-and}
 use Rattle.std.proofs.lemmas.Bool.{and_parts, and_from, cases_eq, false≢true}
 use Rattle.polymatroid.specs.Sets.{secret, InGround, Within, Coalition}
@@ -32,3 +34,20 @@ one_fails k test s l f = other (all_below k test) refl
     other : (b : Bool) → all_below k test ≡ b → false ≡ b
     other false e = refl
     other true e = absurd (false≢true (sym f ∙ below_each test k s e l))
+
+range_more : (a n : ℕ) → range_with_len a (suc n) ≡ range_with_len a n ++ (a + n) ∷ []
+range_more a zero = ap (λ k. k ∷ []) (omega arith)
+range_more a (suc n) = ap (λ ks. a ∷ ks) (range_more (a + 1) n ∙ ap (λ k. range_with_len (a + 1) n ++ k ∷ []) (omega arith))
+
+turned : (x y : Bool) → (x && (y && true)) ≡ (y && x)
+turned true true = refl
+turned true false = refl
+turned false true = refl
+turned false false = refl
+
+-- the test at every number below n, counted upwards
+pub upwards : (n : ℕ) (test : ℕ → Bool) → list_all test (range_with_len 0 n) ≡ all_below n test
+upwards zero test = refl
+upwards (suc n) test =
+    ap (list_all test) (range_more 0 n ∙ ap (λ k. range_with_len 0 n ++ k ∷ []) (omega arith)) ∙ list_all-append test (range_with_len 0 n) (n ∷ [])
+    ∙ turned (list_all test (range_with_len 0 n)) (test n) ∙ ap (λ x. test n && x) (upwards n test)

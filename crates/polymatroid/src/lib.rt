@@ -10,11 +10,9 @@ pub use inequality::{Inequality, Line};
 
 // The theorem behind every lower bound: lawful lines that add up to the claim bind every polymatroid that realises the
 // access structure, in the weighted sum of its shares and so in one of them.
-pub fn certificates_bind() -> u8
+pub fn certificates_bind()
     ensures lines { LinesHold }
     ensures weighted { Weighted }
     ensures claims { Claims }
     ensures largest { Sound }
-{
-    0
-}
+{}

@@ -12,17 +12,7 @@ use verdict::lower_bound;
 fn number_of(answer: Result<(u32, u32), Refusal>) -> u32
     ensures { result ≡ answered answer }
 {
-    match answer {
-        Ok(_) => 0,
-        Err(refusal) => refusal.reason.number(),
-    }
-}
-
-// The number for two records.
-fn judged(structure: &[u8], certificate: &[u8]) -> u32
-    ensures { result ≡ answer_to structure.now certificate.now }
-{
-    number_of(lower_bound(structure, certificate))
+    answer.map_or_else(|refusal| refusal.reason.number(), |_| 0)
 }
 
 // 0 if the certificate proves a lower bound for the access structure, else the number of the refusal, the access
@@ -32,5 +22,5 @@ pub extern "C" fn quote_check(structure: &[u8], certificate: &[u8]) -> u32
     ensures value { result ≡ answer_to structure.now certificate.now }
     ensures binds { result ≡ 0 → (count : ℕ) × ((total : ℕ) × Bounds structure.now count total) }
 {
-    judged(structure, certificate)
+    number_of(lower_bound(structure, certificate))
 }

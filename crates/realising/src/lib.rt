@@ -5,9 +5,7 @@ ghost use Rattle.realising.specs.Realised.{RealisingDecided, LargestFound};
 
 // The test over all coalitions decides whether a rank function realises an access structure, and the largest share is
 // what its name says.
-pub fn realising_is_decided() -> u8
+pub fn realising_is_decided()
     ensures decided { RealisingDecided }
     ensures largest { LargestFound }
-{
-    0
-}
+{}

@@ -1,2 +1,3 @@
 pub mod Trying
 pub mod Stored
+pub mod FromFn

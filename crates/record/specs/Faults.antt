@@ -1,5 +1,5 @@
 -- The numbers of the refusals, and how a fault is handed on. Assumes nothing.
-use Rattle.std.specs.Prelude.{ℕ}
+use Rattle.std.specs.Prelude.{ℕ, Some, None}
 use Rattle.record.specs.declared.faults.Reason.{Reason}
 use Rattle.record.specs.declared.faults.Reason.TheVariants.{CutShort, WrongMark, OutOfRange, SetNotAllowed, NotAntichain, Unlawful, SumDiffers, LeftOver, ParticipantsDiffer}
 use Rattle.record.specs.declared.faults.LineFault.{LineFault}
@@ -19,7 +19,7 @@ number_of ParticipantsDiffer = 12
 
 -- a fault of a record outside its lines
 abbrev pub outside : Reason → RecordFault
-outside reason = record { reason = reason; line = 0 }
+outside reason = record { reason = reason; line = None }
 
 -- a fault in a line, numbered from 1
 abbrev pub in_line : ℕ → Reason → LineFault
@@ -27,12 +27,12 @@ in_line line reason = record { reason = reason; line = line }
 
 -- a line's fault is its record's, with its reason and its line
 abbrev pub of_line : LineFault → RecordFault
-of_line f = record { reason = f.reason; line = f.line }
+of_line f = record { reason = f.reason; line = Some f.line }
 
 -- a record's fault in a call that names no entry
 abbrev pub unnamed : RecordFault → Refusal
-unnamed f = record { reason = f.reason; entry = 0; line = f.line }
+unnamed f = record { reason = f.reason; entry = None; line = f.line }
 
 -- a refusal outside records, in a call that names no entry
 abbrev pub refused : Reason → Refusal
-refused reason = record { reason = reason; entry = 0; line = 0 }
+refused reason = record { reason = reason; entry = None; line = None }

@@ -1,35 +1,35 @@
-// Why something is refused. `number_of` gives each reason its number.
-#[derive(Clone, Copy, PartialEq, Eq)]
+// Why something is refused, and its number.
+#[derive(Clone, Copy, Debug, PartialEq, Eq)]
 pub enum Reason {
-    CutShort,
-    WrongMark,
-    OutOfRange,
-    SetNotAllowed,
-    NotAntichain,
-    Unlawful,
-    SumDiffers,
-    LeftOver,
-    ParticipantsDiffer,
+    CutShort = 1,
+    WrongMark = 2,
+    OutOfRange = 3,
+    SetNotAllowed = 4,
+    NotAntichain = 5,
+    Unlawful = 6,
+    SumDiffers = 7,
+    LeftOver = 11,
+    ParticipantsDiffer = 12,
 }
 
 // What is wrong with one line of a record, and the line's number, from 1.
-#[derive(Clone, Copy, PartialEq, Eq)]
+#[derive(Clone, Copy, Debug, PartialEq, Eq)]
 pub struct LineFault {
     pub reason: Reason,
     pub line: u16,
 }
 
-// What is wrong with a record, and in which line: 0 outside the lines.
-#[derive(Clone, Copy, PartialEq, Eq)]
+// What is wrong with a record, and in which line, if it is in one.
+#[derive(Clone, Copy, Debug, PartialEq, Eq)]
 pub struct RecordFault {
     pub reason: Reason,
-    pub line: u16,
+    pub line: Option<u16>,
 }
 
-// What a call answers when it refuses: the reason, the entry that the call names, or 0, and the line, or 0.
-#[derive(Clone, Copy, PartialEq, Eq)]
+// What a call answers when it refuses: the reason, the entry if the call names one, and the line if the fault is in one.
+#[derive(Clone, Copy, Debug, PartialEq, Eq)]
 pub struct Refusal {
     pub reason: Reason,
-    pub entry: u32,
-    pub line: u16,
+    pub entry: Option<u32>,
+    pub line: Option<u16>,
 }

@@ -1,5 +1,5 @@
 // Fields of a record, at their offsets. Stored numbers have the highest byte first; a byte past the end counts as 0.
-ghost use Rattle.std.specs.Prelude.{◌≡◌};
+ghost use Rattle.std.specs.Prelude.{◌≡◌, ℕ, ◌+◌, ◌<◌, drop, slice_index};
 ghost use Rattle.record.specs.Reading.{byte, two, four, marked, needed};
 
 use crate::faults::Reason;
@@ -17,28 +17,37 @@ pub fn need(bytes: &[u8], count: usize) -> Result<(), Reason>
 pub fn byte_at(bytes: &[u8], at: usize) -> u8
     ensures { result ≡ byte bytes.now at }
 {
-    if at < bytes.len() { bytes[at] } else { 0 }
+    bytes.get(at).copied().unwrap_or(0)
 }
 
-// Two bytes.
+// The bytes from an offset on; none past the end.
+fn rest_at(bytes: &[u8], at: usize) -> &[u8]
+    ensures { result.now ≡ drop at bytes.now }
+{
+    bytes.get(at..).unwrap_or(&[])
+}
+
+// N bytes.
+fn bytes_at<const N: usize>(bytes: &[u8], at: usize) -> [u8; N]
+    ensures { (i : ℕ) → i < N → slice_index result i ≡ byte bytes.now (at + i) }
+{
+    let rest = rest_at(bytes, at);
+    let held = rest.len().min(N);
+    let mut field = [0; N];
+    field[..held].copy_from_slice(&rest[..held]);
+    field
+}
+
 pub fn two_at(bytes: &[u8], at: usize) -> u16
     ensures { result ≡ two bytes.now at }
 {
-    if at >= bytes.len() {
-        return 0;
-    }
-    u16::from(bytes[at]) * 256 + u16::from(byte_at(bytes, at + 1))
+    u16::from_be_bytes(bytes_at(bytes, at))
 }
 
-// Four bytes.
 pub fn four_at(bytes: &[u8], at: usize) -> u32
     ensures { result ≡ four bytes.now at }
 {
-    let high = u32::from(two_at(bytes, at)) * 65536;
-    if bytes.len().saturating_sub(at) <= 2 {
-        return high;
-    }
-    high + u32::from(two_at(bytes, at + 2))
+    u32::from_be_bytes(bytes_at(bytes, at))
 }
 
 // Whether the first two bytes are the mark.

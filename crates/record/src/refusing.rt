@@ -1,24 +1,16 @@
-// The numbers of the refusals, and how a fault is handed on: from a line to its record, from a record to the call.
+// The numbers of the refusals, how a fault is handed on (from a line to its record, from a record to the call), and how
+// a refusal is printed.
 ghost use Rattle.std.specs.Prelude.{◌≡◌};
 ghost use Rattle.record.specs.Faults.{number_of, of_line, outside, unnamed, refused};
 
 use crate::faults::{LineFault, Reason, RecordFault, Refusal};
+use std::fmt;
 
 impl Reason {
     pub fn number(self) -> u32
         ensures { result ≡ number_of self }
     {
-        match self {
-            Reason::CutShort => 1,
-            Reason::WrongMark => 2,
-            Reason::OutOfRange => 3,
-            Reason::SetNotAllowed => 4,
-            Reason::NotAntichain => 5,
-            Reason::Unlawful => 6,
-            Reason::SumDiffers => 7,
-            Reason::LeftOver => 11,
-            Reason::ParticipantsDiffer => 12,
-        }
+        self as u32
     }
 }
 
@@ -26,8 +18,10 @@ impl From<LineFault> for RecordFault {
     ghost from_gives = { λ x y. y ≡ of_line x };
 
     fn from(fault: LineFault) -> RecordFault {
-        let LineFault { reason, line } = fault;
-        RecordFault { reason, line }
+        RecordFault {
+            reason: fault.reason,
+            line: Some(fault.line),
+        }
     }
 }
 
@@ -35,7 +29,7 @@ impl From<Reason> for RecordFault {
     ghost from_gives = { λ x y. y ≡ outside x };
 
     fn from(reason: Reason) -> RecordFault {
-        RecordFault { reason, line: 0 }
+        RecordFault { reason, line: None }
     }
 }
 
@@ -45,7 +39,7 @@ impl From<RecordFault> for Refusal {
     fn from(fault: RecordFault) -> Refusal {
         Refusal {
             reason: fault.reason,
-            entry: 0,
+            entry: None,
             line: fault.line,
         }
     }
@@ -55,11 +49,16 @@ impl From<Reason> for Refusal {
     ghost from_gives = { λ x y. y ≡ refused x };
 
     fn from(reason: Reason) -> Refusal {
-        let entry = 0;
-        Refusal {
-            reason,
-            entry,
-            line: 0,
-        }
+        Refusal::from(RecordFault::from(reason))
+    }
+}
+
+// Number, entry and line, with 0 for none.
+impl fmt::Display for Refusal {
+    fn fmt<W: fmt::Write>(&self, f: &mut fmt::Formatter<W>) -> fmt::Result {
+        let number = self.reason.number();
+        let entry = self.entry.unwrap_or(0);
+        let line = self.line.unwrap_or(0);
+        write!(f, "{number} {entry} {line}")
     }
 }

@@ -6,7 +6,7 @@ ghost use Rattle.span.specs.Theorems.{SpanDecided, OneLength, LengthIsDimension,
 use field::Field;
 
 // What holds of spans and dimensions over every field.
-pub fn dimensions_are_lawful<F: Field>(f: &F) -> u8
+pub fn dimensions_are_lawful<F: Field>(f: &F)
     ensures decided { SpanDecided (F.ops f.now) }
     ensures exchange { OneLength (F.ops f.now) }
     ensures length { LengthIsDimension (F.ops f.now) }
@@ -15,6 +15,4 @@ pub fn dimensions_are_lawful<F: Field>(f: &F) -> u8
     ensures order { OrderIsFree (F.ops f.now) }
     ensures added { SpanAddsNothing (F.ops f.now) }
     ensures polymatroid { DimensionsPolymatroid (F.ops f.now) }
-{
-    0
-}
+{}

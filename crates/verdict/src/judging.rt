@@ -55,7 +55,7 @@ fn conclude(header: &Header, table: &[i64; 256]) -> Result<(u32, u32), RecordFau
     if !is_settled(header, table) {
         return Err(RecordFault {
             reason: Reason::SumDiffers,
-            line: 0,
+            line: None,
         });
     }
     Ok((header.count, total_of(header)))

@@ -95,7 +95,7 @@ pub(crate) fn add_lines(
     if !rest.is_empty() {
         return Err(RecordFault {
             reason: Reason::LeftOver,
-            line: 0,
+            line: None,
         });
     }
     Ok(table)
