@@ -25,6 +25,7 @@ fn raised(q: u8, a: u8) -> u8 {
 fn by_powers(q: u8, a: u8, b: u8) -> u8 {
     let mut product = a;
     let mut power: u8 = 1;
+    // A `for` that counts turns: a chain would have to carry both numbers and stop at one of them.
     for _ in 0..q {
         if power == b {
             return product;

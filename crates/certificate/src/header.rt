@@ -1,7 +1,8 @@
 use std::fmt;
 
 // The head of a certificate: a weight for each participant, the claimed count, and how many lines follow.
-// Weights stand in the order of the participants, with 0 beyond them.
+// Weights stand in the order of the participants, with 0 beyond them: an array and how many of it count, since nothing on a
+// record's way allocates.
 #[derive(Clone, Copy, Debug, PartialEq, Eq)]
 pub struct Header {
     pub participants: u8,

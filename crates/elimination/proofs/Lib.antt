@@ -1,4 +1,3 @@
-pub mod Places
-pub mod Kept
-pub mod Standing
+pub mod Same
+pub mod Pivots
 pub mod Counts

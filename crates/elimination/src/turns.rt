@@ -1,59 +1,59 @@
-// Elimination, column by column.
-ghost use Rattle.std.specs.Prelude.{◌≡◌, ℕ, ◌+◌, ◌-◌, ◌*◌, ◌<◌, ◌≤◌, length, ◌≢◌};
+// Elimination, column by column from the left.
+ghost use Rattle.std.specs.Prelude.{◌≡◌, ℕ, ◌+◌, ◌<◌, ◌≤◌, ◌∷◌, length, ◌≢◌, slice_index};
+ghost use Rattle.std.specs.List.{All, SwappedAt};
+ghost use Rattle.std.specs.List.Sorted.{IsPermutation};
 ghost use Rattle.field.specs.Laws.{code};
-ghost use Rattle.span.specs.Span.{SameSpan};
 ghost use Rattle.span.specs.Dimension.{dimension};
-ghost use Rattle.elimination.specs.Rows.{row, rows_from, ZeroLeft, Cleared};
+ghost use Rattle.elimination.specs.Rows.{vectors, ZeroLeft, SpanKept};
 
-use crate::steps::{exchange, scale, seek, subtract};
+use crate::steps::{clear, scale, seek};
+use crate::{Row, WIDTH};
 use field::Field;
 
-// Takes from each row below `top` as much of row `top` as the row's code at column c says.
-fn clear<F: Field>(f: &F, m: &mut [u8], rows: usize, d: usize, top: usize, c: usize)
-    requires fits { rows * d ≤ length m.old }
-    requires column { c < d }
-    requires within { top < rows }
-    ensures { Cleared (F.ops f.now) d top rows c m.old m.new }
+// The first row and row p change places.
+fn exchange(rows: &mut [Row], p: usize)
+    requires { p < length rows.old }
+    ensures places { SwappedAt rows.old rows.new 0 p }
+    ensures permutation { IsPermutation rows.old rows.new }
 {
-    for r in top + 1..rows {
-        let s = m[r * d + c];
-        subtract(f, m, d, r, top, s);
+    rows.swap(0, p);
+}
+
+// One turn at column c: divides the pivot's row by its code there, and makes the rows below it 0 there. That takes one
+// from the dimension, over any columns that c is among.
+fn turn<F: Field>(f: &F, pivot: &mut Row, below: &mut [Row], c: usize)
+    requires column { c < WIDTH }
+    requires real { code (F.ops f.now).order (slice_index pivot.old c) ≢ 0 }
+    requires left { All (ZeroLeft (F.ops f.now) c) (pivot.old ∷ below.old) }
+    ensures falls { (d : ℕ) → c < d → d ≤ WIDTH → dimension (F.ops f.now) d (vectors (pivot.old ∷ below.old)) ≡ dimension (F.ops f.now) d (vectors below.new) + 1 }
+    ensures left { All (ZeroLeft (F.ops f.now) (c + 1)) below.new }
+    ensures span { SpanKept (F.ops f.now) (pivot.old ∷ below.old) (pivot.new ∷ below.new) }
+{
+    let s = f.inv(pivot[c]);
+    scale(f, pivot, s);
+    clear(f, below, pivot, c);
+}
+
+// The dimension of the span of the rows' first d codes, by elimination in place: the rows at exit span what they spanned
+// at entry. Column c comes first, left of which the rows are 0; a row that was the pivot's is done with.
+pub(crate) fn eliminate<F: Field>(f: &F, rows: &mut [Row], c: usize, d: usize) -> usize
+    requires within { c ≤ d }
+    requires narrow { d ≤ WIDTH }
+    requires left { All (ZeroLeft (F.ops f.now) c) rows.old }
+    ensures value { result ≡ dimension (F.ops f.now) d (vectors rows.old) }
+    ensures most { result ≤ length rows.old }
+    ensures span { SpanKept (F.ops f.now) rows.old rows.new }
+{
+    if c == d {
+        return 0;
     }
-}
-
-// One turn at column c, with the pivot in row p: exchange, divide, subtract below. Afterwards row `top` has the pivot,
-// and the rows below it are 0 up to column c.
-fn turn<F: Field>(f: &F, m: &mut [u8], rows: usize, d: usize, top: usize, p: usize, c: usize)
-    requires fits { rows * d ≤ length m.old }
-    requires column { c < d }
-    requires from { top ≤ p }
-    requires within { p < rows }
-    requires pivot { code (F.ops f.now).order (row m.old d p c) ≢ 0 }
-    requires left { ZeroLeft (F.ops f.now) d rows top c m.old }
-    ensures falls { dimension (F.ops f.now) d (rows_from m.old d top (rows - top)) ≡ dimension (F.ops f.now) d (rows_from m.new d (top + 1) (rows - (top + 1))) + 1 }
-    ensures left { ZeroLeft (F.ops f.now) d rows (top + 1) (c + 1) m.new }
-    ensures span { SameSpan (F.ops f.now) d (rows_from m.old d 0 rows) (rows_from m.new d 0 rows) }
-{
-    exchange(m, d, top, p);
-    let s = f.inv(m[top * d + c]);
-    scale(f, m, d, top, s);
-    clear(f, m, rows, d, top, c);
-}
-
-// The dimension of the span of the rows, by elimination in place: the rows at exit span what they spanned at entry.
-pub(crate) fn eliminate<F: Field>(f: &F, m: &mut [u8], rows: usize, d: usize) -> usize
-    requires fits { rows * d ≤ length m.old }
-    ensures value { result ≡ dimension (F.ops f.now) d (rows_from m.old d 0 rows) }
-    ensures most { result ≤ rows }
-    ensures span { SameSpan (F.ops f.now) d (rows_from m.old d 0 rows) (rows_from m.new d 0 rows) }
-{
-    let mut top = 0;
-    for c in 0..d {
-        let p = seek(f, m, rows, d, top, c);
-        if p < rows {
-            turn(f, m, rows, d, top, p, c);
-            top += 1;
+    match seek(f, rows, c) {
+        Some(p) => {
+            exchange(rows, p);
+            let (first, below) = rows.split_at_mut(1);
+            turn(f, &mut first[0], below, c);
+            1 + eliminate(f, below, c + 1, d)
         }
+        None => eliminate(f, rows, c + 1, d),
     }
-    top
 }

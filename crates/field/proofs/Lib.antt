@@ -1,3 +1,4 @@
 pub mod Codes
 pub mod Extended
 pub mod Free
+pub mod Inverses

@@ -20,8 +20,14 @@ pub trait Field {
     fn mul(&self, a: u8, b: u8) -> u8
         ensures { result ≡ (ops self.now).mul a b };
 
+    // The one code whose product with a is 1, tried in turn; 0 where there is none.
     fn inv(&self, a: u8) -> u8
-        ensures { result ≡ (ops self.now).inv a };
+        ensures { result ≡ (ops self.now).inv a }
+    {
+        (0..self.order())
+            .find(|b| self.mul(a, *b) == 1)
+            .unwrap_or(0)
+    }
 
     // The code that a byte counts as.
     fn code(&self, a: u8) -> u8

@@ -7,6 +7,7 @@ use Rattle.std.specs.List.{AllZip}
 use Rattle.std.proofs.lemmas.List.Elements.{same_from_all_zip}
 use Rattle.std.proofs.lemmas.List.{get_or_append_left, get_or-append-add, get_or-take, get_or-drop}
 use Rattle.std.proofs.lemmas.Bool.{and_from, le-leb, eq-eqb, cond-true}
+use Rattle.std.proofs.lemmas.Nat.{row_fits}
 use Rattle.field.specs.Laws.{Ops, Lawful, code}
 use Rattle.matroid.specs.Members.{has, members}
 use Rattle.graph.specs.Graph.{Edge}
@@ -17,7 +18,6 @@ use Rattle.span.proofs.Closures.{same_of}
 use Rattle.span.proofs.Dimensions.{span_decides}
 use Rattle.elimination.specs.Rows.{row, rows_from}
 use Rattle.elimination.specs.Rank.{fits, vectors_in, rank_of}
-use Rattle.elimination.proofs.Places.{row_within}
 use Rattle.formula.specs.Holding.{total, before, items_from, held_by, held_by_all, bytes_by, bytes_by_all}
 use Rattle.formula.specs.Vectors.{is_order, field_of}
 use Rattle.formula.specs.Graphs.{edge_at}
@@ -101,7 +101,7 @@ module _ {E : Type 0} {w : ℕ} {item : List ℕ → ℕ → E} {R : E → E →
   )
     where
       fronts : (j : ℕ) → j < k → R (item (xs ++ ys) j) (item xs j)
-      fronts j l = L.front xs ys j (omega (arith, row_within j k w l))
+      fronts j l = L.front xs ys j (omega (arith, row_fits j w k w l (omega arith)))
 
       backs : (j : ℕ) → R (item (xs ++ ys) (0 + k + j)) (item ys (0 + j))
       backs j =
@@ -173,7 +173,7 @@ behind_at w xs ys r j k e =
 part_at : (w : ℕ) (xs : List ℕ) (b c j k : ℕ) → j < c → k < w → get_or (take (c * w) (drop (b * w) xs)) (j * w + k) 0 ≡ get_or xs ((b + j) * w + k) 0
 part_at w xs b c j k l h =
     let e : b * w + (j * w + k) ≡ (b + j) * w + k = omega (arith, add-mul b j w) in
-    get_or-take (c * w) (drop (b * w) xs) (j * w + k) 0 (omega (arith, row_within j c w l)) ∙ get_or-drop (b * w) xs (j * w + k) 0
+    get_or-take (c * w) (drop (b * w) xs) (j * w + k) 0 (omega (arith, row_fits j w c w l (omega arith))) ∙ get_or-drop (b * w) xs (j * w + k) 0
     ∙ ap (λ p. get_or xs p 0) e
 
 -- edges: equal

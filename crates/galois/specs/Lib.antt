@@ -4,5 +4,3 @@ pub mod Polynomials
 pub mod Steps
 pub mod Tables
 pub mod Orders
-pub mod Tested
-pub mod Tests

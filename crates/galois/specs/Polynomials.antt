@@ -7,6 +7,9 @@ use Rattle.galois.specs.Codes.{on_codes}
 abbrev pub is_computed_order : ℕ → Bool
 is_computed_order q = q == 4 || q == 8
 
+abbrev pub is_binary_order : ℕ → Bool
+is_binary_order q = is_computed_order q || q == 16
+
 -- the product of a polynomial with the n lowest terms of another
 abbrev pub product : ℕ → ℕ → ℕ → ℕ
 product zero a b = 0

@@ -1,38 +1,44 @@
-ghost use Rattle.galois.specs.Polynomials.{binary_ops};
-ghost use Rattle.std.specs.Prelude.{refl};
+ghost use Rattle.std.specs.Prelude.{◌≡◌, ◌<◌, true, refl};
+ghost use Rattle.galois.specs.Polynomials.{binary_ops, times};
+ghost use Rattle.galois.specs.Tables.{holds_products};
 ghost use Rattle.galois.specs.Orders.{binary_laws};
 
-use super::code::reduced;
-use super::table::{inverse_at, product_at};
 use field::Field;
 
 // The field of order 16.
 #[derive(Clone, Copy)]
 pub struct Gf16;
 
-// The product of the codes a and b stands at 16 a + b.
-const PRODUCTS: [u8; 256] = [
-    0, 0, 0, 0, 0, 0, 0, 0, 0, 0, 0, 0, 0, 0, 0, 0, // 0 by 15
-    0, 1, 2, 3, 4, 5, 6, 7, 8, 9, 10, 11, 12, 13, 14, 15, // 1 by 15
-    0, 2, 4, 6, 8, 10, 12, 14, 3, 1, 7, 5, 11, 9, 15, 13, // 2 by 15
-    0, 3, 6, 5, 12, 15, 10, 9, 11, 8, 13, 14, 7, 4, 1, 2, // 3 by 15
-    0, 4, 8, 12, 3, 7, 11, 15, 6, 2, 14, 10, 5, 1, 13, 9, // 4 by 15
-    0, 5, 10, 15, 7, 2, 13, 8, 14, 11, 4, 1, 9, 12, 3, 6, // 5 by 15
-    0, 6, 12, 10, 11, 13, 7, 1, 5, 3, 9, 15, 14, 8, 2, 4, // 6 by 15
-    0, 7, 14, 9, 15, 8, 1, 6, 13, 10, 3, 4, 2, 5, 12, 11, // 7 by 15
-    0, 8, 3, 11, 6, 14, 5, 13, 12, 4, 15, 7, 10, 2, 9, 1, // 8 by 15
-    0, 9, 1, 8, 2, 11, 3, 10, 4, 13, 5, 12, 6, 15, 7, 14, // 9 by 15
-    0, 10, 7, 13, 14, 4, 9, 3, 15, 5, 8, 2, 1, 11, 6, 12, // 10 by 15
-    0, 11, 5, 14, 10, 1, 15, 4, 7, 12, 2, 9, 13, 6, 8, 3, // 11 by 15
-    0, 12, 11, 7, 5, 9, 14, 2, 10, 6, 1, 13, 15, 3, 4, 8, // 12 by 15
-    0, 13, 9, 4, 1, 12, 8, 5, 2, 15, 11, 6, 3, 14, 10, 7, // 13 by 15
-    0, 14, 15, 1, 13, 3, 2, 12, 9, 7, 6, 8, 4, 10, 11, 5, // 14 by 15
-    0, 15, 13, 2, 9, 6, 4, 11, 1, 14, 12, 3, 8, 7, 5, 10, // 15 by 15
+// The product of the codes a and b stands in row a at b.
+const PRODUCTS: [[u8; 16]; 16] = [
+    [0, 0, 0, 0, 0, 0, 0, 0, 0, 0, 0, 0, 0, 0, 0, 0],
+    [0, 1, 2, 3, 4, 5, 6, 7, 8, 9, 10, 11, 12, 13, 14, 15],
+    [0, 2, 4, 6, 8, 10, 12, 14, 3, 1, 7, 5, 11, 9, 15, 13],
+    [0, 3, 6, 5, 12, 15, 10, 9, 11, 8, 13, 14, 7, 4, 1, 2],
+    [0, 4, 8, 12, 3, 7, 11, 15, 6, 2, 14, 10, 5, 1, 13, 9],
+    [0, 5, 10, 15, 7, 2, 13, 8, 14, 11, 4, 1, 9, 12, 3, 6],
+    [0, 6, 12, 10, 11, 13, 7, 1, 5, 3, 9, 15, 14, 8, 2, 4],
+    [0, 7, 14, 9, 15, 8, 1, 6, 13, 10, 3, 4, 2, 5, 12, 11],
+    [0, 8, 3, 11, 6, 14, 5, 13, 12, 4, 15, 7, 10, 2, 9, 1],
+    [0, 9, 1, 8, 2, 11, 3, 10, 4, 13, 5, 12, 6, 15, 7, 14],
+    [0, 10, 7, 13, 14, 4, 9, 3, 15, 5, 8, 2, 1, 11, 6, 12],
+    [0, 11, 5, 14, 10, 1, 15, 4, 7, 12, 2, 9, 13, 6, 8, 3],
+    [0, 12, 11, 7, 5, 9, 14, 2, 10, 6, 1, 13, 15, 3, 4, 8],
+    [0, 13, 9, 4, 1, 12, 8, 5, 2, 15, 11, 6, 3, 14, 10, 7],
+    [0, 14, 15, 1, 13, 3, 2, 12, 9, 7, 6, 8, 4, 10, 11, 5],
+    [0, 15, 13, 2, 9, 6, 4, 11, 1, 14, 12, 3, 8, 7, 5, 10],
 ];
 
-const INVERSES: [u8; 16] = [0, 1, 9, 14, 13, 11, 7, 6, 15, 2, 12, 5, 10, 4, 3, 8];
+// The product of two codes, from a table that holds the products.
+fn product_at(table: &[[u8; 16]; 16], a: u8, b: u8) -> u8
+    requires right { holds_products table.now ≡ true }
+    requires codes { (a < 16) × (b < 16) }
+    ensures { result ≡ times 16 a b }
+{
+    table[a as usize][b as usize]
+}
 
-// Polynomials over GF(2) modulo y^4 + y + 1, by tables.
+// Polynomials over GF(2) modulo y^4 + y + 1, by a table of products.
 impl Field for Gf16 {
     ghost ops = { λ _. binary_ops 16 };
 
@@ -42,19 +48,16 @@ impl Field for Gf16 {
         16
     }
 
+    // As in `Binary`: one body for both would call `code` of the impl that calls it, a cycle the check refuses.
     fn add(&self, a: u8, b: u8) -> u8 {
-        reduced(16, a) ^ reduced(16, b)
+        self.code(a) ^ self.code(b)
     }
 
     fn neg(&self, a: u8) -> u8 {
-        reduced(16, a) // its own negative
+        self.code(a) // its own negative
     }
 
     fn mul(&self, a: u8, b: u8) -> u8 {
-        product_at(&PRODUCTS, reduced(16, a), reduced(16, b))
-    }
-
-    fn inv(&self, a: u8) -> u8 {
-        inverse_at(&INVERSES, 16, reduced(16, a))
+        product_at(&PRODUCTS, self.code(a), self.code(b))
     }
 }

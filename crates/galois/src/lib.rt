@@ -2,12 +2,8 @@
 #![tactic(auto)]
 
 mod binary;
-mod code;
 mod gf16;
-mod modular;
-mod polynomial;
 mod prime;
-mod table;
 
 pub use binary::Binary;
 pub use gf16::Gf16;

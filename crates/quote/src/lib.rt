@@ -8,7 +8,7 @@ ghost use Rattle.quote.specs.Answer.{answered, answer_to};
 use record::Refusal;
 use verdict::lower_bound;
 
-// 0 for a bound, else the number of the refusal.
+// 0 for a bound, else the number of the refusal: C takes a number.
 fn number_of(answer: Result<(u32, u32), Refusal>) -> u32
     ensures { result ≡ answered answer }
 {

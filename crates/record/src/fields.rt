@@ -1,4 +1,5 @@
 // Fields of a record, at their offsets. Stored numbers have the highest byte first; a byte past the end counts as 0.
+// Bytes and offset are no struct: the offset is another at each call, so it would hold the bytes alone.
 ghost use Rattle.std.specs.Prelude.{◌≡◌, ℕ, ◌+◌, ◌<◌, drop, slice_index};
 ghost use Rattle.record.specs.Reading.{byte, two, four, marked, needed};
 

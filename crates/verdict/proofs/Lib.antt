@@ -1,8 +1,7 @@
-mod Marks
 mod Steps
-mod Turns
 mod Weights
-mod Equals
+mod Below
+mod Claim
 mod Totals
 mod Typed
 pub mod Proven

@@ -1,17 +1,19 @@
 -- Two records give a bound exactly if they are those of minimal qualified sets and of a right certificate for them.
 -- Assumes nothing.
-use Rattle.std.proofs.Common.{◌≡◌, ℕ, Bool, List, ℤ, Ok, sym, ap, ◌∙◌, subst}
+use Rattle.std.proofs.Common.{◌≡◌, ℕ, Bool, List, ℤ, Ok, Err, Result, sym, refl, ap, ◌∙◌}
 use Rattle.std.proofs.ByRecursion.{All-weaker}
 use Rattle.polymatroid.specs.Sets.{Coalition}
 use Rattle.polymatroid.specs.Realising.{Realises}
 use Rattle.polymatroid.specs.Inequality.{LawfulAt, Lawful}
 use Rattle.polymatroid.specs.declared.inequality.Inequality.{Inequality}
 use Rattle.polymatroid.specs.declared.inequality.Inequality.TheVariants.{Monotonicity, Submodularity, Correctness, Privacy}
+use Rattle.record.specs.declared.faults.Reason.{Reason}
+use Rattle.record.specs.declared.faults.Refusal.{Refusal}
 use Rattle.record.specs.Faults.{outside, unnamed}
 use Rattle.record.specs.Reading.{and_then, refused_as, Bytes}
-use Rattle.record.proofs.Trying.{and_then_ok, refused_as_ok, ok_same}
+use Rattle.record.proofs.Trying.{never, refused_as_ok}
 use Rattle.access.specs.Table.{qualified_by, contains_one, table_of}
-use Rattle.access.specs.Format.{listed_in, structure_in, LawfulSets}
+use Rattle.access.specs.Format.{listed_in, LawfulSets, encode_sets}
 use Rattle.access.proofs.Minimal.{qualified_coalition}
 use Rattle.access.proofs.Records.{read_exactly}
 use Rattle.certificate.specs.Format.{Certificate, LawfulCertificate}
@@ -61,41 +63,41 @@ module _ (n : ℕ) (q r : ℕ → Bool) (same : (a : ℕ) → Coalition n a → 
 
 -- ---- the two records
 module _ (structure certificate : List ℕ) (count total : ℕ) where
-  -- the minimal qualified sets and the judgement behind an answer
-  Behind : ℕ → List ℕ → Type 0
-  Behind n sets = (listed_in structure ≡ Ok (n, sets)) × (judge n (qualified_by (table_of sets)) certificate ≡ Ok (count, total))
+  -- the minimal qualified sets behind an answer: they are recorded, and by their table the judgement gives the answer
+  record Behind (n : ℕ) (sets : List ℕ) : Type 0 where
+    lawful : LawfulSets n sets
+    recorded : structure ≡ encode_sets n sets
+    judged : judge n (qualified_by (table_of sets)) certificate ≡ Ok (count, total)
+
+  answer : Result (ℕ × List ℕ) Reason → Result (ℕ × ℕ) Refusal
+  answer r = and_then (refused_as unnamed (refused_as outside (and_then {A = ℕ × List ℕ} {B = ℕ × List Bool} r (λ l. Ok (l.0, table_of l.1))))) (λ s. refused_as unnamed (judge s.0 (qualified_by s.1) certificate))
+
+  listed : (r : Result (ℕ × List ℕ) Reason) → listed_in structure ≡ r → answer r ≡ Ok (count, total) → (n : ℕ) × ((sets : List ℕ) × Behind n sets)
+  unfolding answer
+  listed (Ok l) e p =
+      let x = read_exactly structure l.0 l.1 in
+      (l.0, (l.1, record { lawful = x.lawful e; recorded = x.encoded e; judged = refused_as_ok unnamed (judge l.0 (qualified_by (table_of l.1)) certificate) (count, total) p }))
+  listed (Err e) q p = never (unnamed (outside e)) (count, total) p
 
   behind : lower_bound_in structure certificate ≡ Ok (count, total) → (n : ℕ) × ((sets : List ℕ) × Behind n sets)
-  unfolding Behind
-  behind p =
-      let a = and_then_ok (refused_as unnamed (structure_in structure)) (λ s. refused_as unnamed (judge s.0 (qualified_by s.1) certificate)) (count, total) p in
-      let s = a.0 in
-      let j : judge s.0 (qualified_by s.1) certificate ≡ Ok (count, total) = refused_as_ok unnamed (judge s.0 (qualified_by s.1) certificate) (count, total) a.2 in
-      let b = and_then_ok (listed_in structure) (λ r. Ok (r.0, table_of r.1)) s
-      (refused_as_ok outside (and_then (listed_in structure) (λ r. Ok (r.0, table_of r.1))) s (refused_as_ok unnamed (structure_in structure) s a.1)) in
-      let l = b.0 in
-      let e : ◌≡◌ {A = ℕ × List Bool} (l.0, table_of l.1) s = ok_same _ _ b.2 in
-      (l.0, (l.1, (b.1, subst (λ (t : ℕ × List Bool). judge t.0 (qualified_by t.1) certificate ≡ Ok (count, total)) (sym e) j)))
+  unfolding answer
+  behind p = listed (listed_in structure) refl p
 
   answered : (n : ℕ) (sets : List ℕ) → Behind n sets → lower_bound_in structure certificate ≡ Ok (count, total)
-  unfolding Behind
-  answered n sets b =
-      ap (λ r. and_then (refused_as unnamed (refused_as outside (and_then {A = ℕ × List ℕ} {B = ℕ × List Bool} r (λ l. Ok (l.0, table_of l.1))))) (λ s. refused_as unnamed (judge s.0 (qualified_by s.1) certificate))) b.0 ∙
-      ap (refused_as unnamed) b.1
+  unfolding answer
+  answered n sets b = ap answer ((read_exactly structure n sets).taken b.lawful b.recorded) ∙ ap (refused_as unnamed) b.judged
 
   table_says : (n : ℕ) (sets : List ℕ) → LawfulSets n sets → (a : ℕ) → Coalition n a → qualified_by (table_of sets) a ≡ contains_one sets a
   table_says n sets l a k = qualified_coalition n sets a l.few k
 
   pub proved_exactly : Bytes certificate → ProvedExactly structure certificate count total
-  unfolding Behind
   proved_exactly bs = record {
     proved = λ p.
         let b = behind p in
         let n = b.0 in
         let sets = b.1.0 in
-        let x = read_exactly structure n sets in
-        let l : LawfulSets n sets = x.lawful b.1.1.0 in
-        let g = (takes_exactly n (qualified_by (table_of sets)) certificate count total bs).right b.1.1.1 in (
+        let l = b.1.1.lawful in
+        let g = (takes_exactly n (qualified_by (table_of sets)) certificate count total bs).right b.1.1.judged in (
           n,
           (
             sets,
@@ -103,36 +105,35 @@ module _ (structure certificate : List ℕ) (count total : ℕ) where
               g.0,
               record {
                 lawful = l;
-                recorded = x.encoded b.1.1.0;
+                recorded = b.1.1.recorded;
                 right = right_same n (qualified_by (table_of sets)) (contains_one sets) (table_says n sets l) certificate count total g.0 g.1;
               },
             ),
           ),
         );
     given = λ n sets c g.
-        answered n sets (
-          (read_exactly structure n sets).taken g.lawful g.recorded,
-          (takes_exactly n (qualified_by (table_of sets)) certificate count total bs).taken c
-              (right_same n (contains_one sets) (qualified_by (table_of sets)) (λ a k. sym (table_says n sets g.lawful a k)) certificate count total c g.right),
-        );
+        answered n sets (record {
+          lawful = g.lawful;
+          recorded = g.recorded;
+          judged = (takes_exactly n (qualified_by (table_of sets)) certificate count total bs).taken c
+              (right_same n (contains_one sets) (qualified_by (table_of sets)) (λ a k. sym (table_says n sets g.lawful a k)) certificate count total c g.right);
+        });
   }
 
   pub bounds : lower_bound_in structure certificate ≡ Ok (count, total) → Bounds structure count total
-  unfolding Behind
   bounds p =
       let b = behind p in
       let n = b.0 in
       let sets = b.1.0 in
-      let x = read_exactly structure n sets in
-      let l : LawfulSets n sets = x.lawful b.1.1.0 in (
+      let l = b.1.1.lawful in (
         n,
         (
           sets,
           record {
             lawful = l;
-            recorded = x.encoded b.1.1.0;
+            recorded = b.1.1.recorded;
             trusted = trusted_same n (qualified_by (table_of sets)) (contains_one sets) (table_says n sets l) count total
-                (trusted n (qualified_by (table_of sets)) certificate count total b.1.1.1);
+                (trusted n (qualified_by (table_of sets)) certificate count total b.1.1.judged);
           },
         ),
       )

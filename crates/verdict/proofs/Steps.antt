@@ -1,29 +1,39 @@
 -- How far the table's numbers grow. Assumes nothing.
-use Rattle.std.proofs.Common.{◌≡◌, ℕ, ◌+◌, ◌<◌, ◌≤◌, List, length, get_or, ℤ, pos, ◌+ℤ◌, neg_ℤ, inl, inr, arith, w32, SFits}
-use Rattle.std.proofs.lemmas.Int.{ints}
-use Rattle.std.proofs.lemmas.Bool.{cases_eq}
-use Rattle.std.proofs.lemmas.List.{get_or-set_same, get_or-set_other}
-use Rattle.verdict.specs.Sums.{add_at, Small, AllSmall}
+use Rattle.std.proofs.Common.{◌≡◌, ℕ, zero, suc, ◌+◌, ◌≤◌, max, List, [], ◌∷◌, get_or, set, replicate, ℤ, pos, ◌+ℤ◌, nat_abs, arith, ◌^◌, w64, SFits, of_z, to_z, neg_ℤ, ◌-ℤ◌}
+use Rattle.std.proofs.lemmas.Int.{ints, to_z-of_z}
+use Rattle.verdict.specs.Sums.{add_at, peak}
 
-wider : (j k : ℕ) (z : ℤ) → j ≤ k → Small j z → Small k z
-wider j k z l h = (omega (arith, ints), omega (arith, ints))
+-- a number of the table is at most its peak
+pub peak_at : (t : List ℤ) (s : ℕ) → nat_abs (get_or t s (pos 0)) ≤ peak t
+unfolding peak
+peak_at [] s = omega arith
+peak_at (z ∷ t) zero = omega arith
+peak_at (z ∷ t) (suc s) = omega (arith, peak_at t s)
 
-pub all_wider : (j k : ℕ) (t : List ℤ) → j ≤ k → AllSmall j t → AllSmall k t
-all_wider j k t l h s b = wider j k (get_or t s (pos 0)) l (h s b)
+peak_set : (t : List ℤ) (s : ℕ) (z : ℤ) → peak (set t s z) ≤ max (nat_abs z) (peak t)
+unfolding peak
+peak_set [] s z = omega arith
+peak_set (y ∷ t) zero z = omega arith
+peak_set (y ∷ t) (suc s) z = omega (arith, peak_set t s z)
 
-one_more : (j : ℕ) (z v : ℤ) → Small 1 v → Small j z → Small (j + 1) (z +ℤ v)
-one_more j z v f h = (omega (arith, ints), omega (arith, ints))
+sum_abs : (y z : ℤ) → nat_abs (y +ℤ z) ≤ nat_abs y + nat_abs z
+sum_abs y z = omega (arith, ints)
 
-pub fits_small : (m : ℤ) → SFits w32 m → Small 1 m
-fits_small m f = (omega (arith, ints), omega (arith, ints))
+pub peak_added : (t : List ℤ) (s : ℕ) (v : ℤ) → peak (add_at t s v) ≤ peak t + nat_abs v
+peak_added t s v =
+    omega (arith, peak_set t s (get_or t s (pos 0) +ℤ v), peak_at t s, sum_abs (get_or t s (pos 0)) v)
 
-pub opposite_small : (m : ℤ) → Small 1 m → Small 1 (neg_ℤ m)
-opposite_small m f = (omega (arith, ints), omega (arith, ints))
+pub peak_zeros : (k : ℕ) → peak (replicate k (pos 0)) ≡ 0
+unfolding peak
+peak_zeros zero = omega arith
+peak_zeros (suc k) = omega (arith, peak_zeros k)
 
--- after one more addition
-pub grown : (t u : List ℤ) (i : ℕ) (v : ℤ) → length t ≡ 256 → i < 256 → Small 1 v → u ≡ add_at t i v →
-    (j : ℕ) → AllSmall j t → AllSmall (j + 1) u
-grown t u i v long b f e j h s c = rw e (elim (cases_eq s i) [
-  | inl here ↦ rw (here, get_or-set_same t i (get_or t i (pos 0) +ℤ v) (pos 0) (omega arith)) (one_more j (get_or t i (pos 0)) v f (h i b))
-  | inr elsewhere ↦ rw (get_or-set_other t i s (get_or t i (pos 0) +ℤ v) (pos 0) elsewhere) (wider j (j + 1) (get_or t s (pos 0)) (omega arith) (h s c))
-])
+-- one more number fits
+pub peak_fits : (t : List ℤ) (s : ℕ) (v : ℤ) → peak t ≤ 2 ^ 46 → nat_abs v ≤ 2 ^ 31 → SFits w64 (get_or t s (pos 0) +ℤ v)
+peak_fits t s v p q = let r = peak_at t s in omega (arith, ints)
+
+-- what is taken away, as it is computed
+pub opposite : (m : ℤ) → nat_abs m ≤ 2 ^ 31 → to_z w64 (of_z w64 (pos 0 -ℤ m)) ≡ neg_ℤ m
+opposite m p = omega (arith, ints)
+
+pub ruleset additions = (to_z-of_z, peak_fits, peak_added)

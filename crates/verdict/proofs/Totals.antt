@@ -1,11 +1,11 @@
 -- The table holds the coefficients of the lines' combination. Assumes nothing.
-use Rattle.std.proofs.Common.{◌≡◌, ℕ, zero, suc, ◌+◌, ◌-◌, ◌*◌, ◌^◌, ◌<◌, ◌≤◌, Bool, true, false, ◌&&◌, ◌||◌, eqb, List, [], ◌∷◌, length, get_or, take, drop, replicate, ℤ, pos, ◌+ℤ◌, ◌-ℤ◌, ◌*ℤ◌, neg_ℤ, Ok, Err, Result, sym, refl, ap, ◌∙◌, subst, ap₂, inl, inr, arith, pow_mono}
+use Rattle.std.proofs.Common.{◌≡◌, ℕ, zero, suc, ◌+◌, ◌*◌, ◌^◌, ◌<◌, ◌≤◌, Bool, true, false, ◌&&◌, ◌||◌, eqb, List, [], ◌∷◌, length, get_or, drop, replicate, ℤ, pos, ◌+ℤ◌, ◌-ℤ◌, ◌*ℤ◌, neg_ℤ, Ok, Err, Result, sym, refl, ap, ◌∙◌, subst, ap₂, inl, inr, arith, pow_mono}
 use lib.Bits.{bit_and, bit_or, or_lt, and_le_l}
 use lib.IntN.{+ℤ_idl, +ℤ_assoc}
 use Rattle.std.specs.List.{AllByRecursion}
 use Rattle.std.proofs.lemmas.Int.{ints}
 use Rattle.std.proofs.lemmas.Bool.{cases_eq, eq-eqb, ne_eqb}
-use Rattle.std.proofs.lemmas.List.{get_or-set_same, get_or-set_other, length-set, get_or-replicate, take_rest}
+use Rattle.std.proofs.lemmas.List.{get_or-set_same, get_or-set_other, length-set, get_or-replicate}
 use Rattle.polymatroid.specs.Sets.{secret, InGround}
 use Rattle.polymatroid.specs.Tests.{all_below}
 use Rattle.polymatroid.specs.Inequality.{form, LawfulAt, Lawful}
@@ -18,8 +18,6 @@ use Rattle.record.specs.declared.faults.Reason.TheVariants.{LeftOver, SumDiffers
 use Rattle.record.specs.declared.faults.RecordFault.{RecordFault}
 use Rattle.record.specs.Faults.{outside, of_line}
 use Rattle.record.specs.Reading.{tried, and_then, refused_as}
-use Rattle.access.specs.declared.structure.AccessStructure.{AccessStructure}
-use Rattle.access.specs.View.{participants_of, qualified_in}
 use Rattle.certificate.specs.declared.header.Header.{Header}
 use Rattle.certificate.specs.Lines.{numbered_line, lines_of}
 use Rattle.certificate.specs.Format.{Certificate, total_of, header_in, header_of, certificate}
@@ -149,27 +147,26 @@ module _ (qualified : ℕ → Bool) (h : Header) (few : h.participants ≤ 7) wh
   alike (Ok ls) lawful = ap (λ b. tried b (outside SumDiffers) (Ok (h.count, total_of h))) (settles ls (lawful ls refl))
   alike (Err f) lawful = refl
 
-  after_head : (bytes : List ℕ) → Ok h ≡ refused_as outside (header_of h.participants bytes) →
-      judge h.participants qualified bytes
-      ≡ and_then (sums_of h.participants qualified h.lines 1 (drop (2 * h.participants + 9) bytes) zeros) (by_table h)
-  after_head bytes e =
-      let rest : List ℕ = drop (2 * h.participants + 9) bytes in
-      ap (λ r. and_then {E = RecordFault} (and_then r (λ g. and_then (lines_of h.participants qualified g.lines 1 rest) (λ ls. Ok (certificate g ls)))) by_lines) (sym e) ∙
-      alike (lines_of h.participants qualified h.lines 1 rest) (λ ls p. lines_lawful h.participants qualified h.lines 1 rest ls p) ∙
-      ap (λ r. and_then r (by_table h)) (sym (sums_are h.participants qualified h.lines 1 rest zeros))
-
 -- a head that is read is what stands in the bytes
-pub head_is : (n : ℕ) (bytes : List ℕ) (h : Header) → Ok h ≡ refused_as outside (header_of n bytes) → h ≡ header_in n bytes
+head_is : (n : ℕ) (bytes : List ℕ) (h : Header) → Ok h ≡ header_of n bytes → h ≡ header_in n bytes
 head_is n bytes h e = grind arith
 
 -- the judgement on what follows a head that is read, by the table of its lines
-pub judged : (s : AccessStructure) (bytes : List ℕ) (h : Header) (r : Result (List ℤ) RecordFault) →
-    Ok h ≡ refused_as outside (header_of (participants_of s) bytes) →
-    r ≡ sums_of (participants_of s) (qualified_in s) h.lines 1 (take (length bytes - (2 * h.participants + 9)) (drop (2 * h.participants + 9) bytes)) zeros →
-    and_then r (by_table h) ≡ judge (participants_of s) (qualified_in s) bytes
-judged s bytes h r e p =
-    let same : h.participants ≡ participants_of s = ap (λ (g : Header). g.participants) (head_is (participants_of s) bytes h e) in
-    ap (λ x. and_then x (by_table h)) p ∙
-    ap₂ (λ k rest. and_then (sums_of k (qualified_in s) h.lines 1 rest zeros) (by_table h)) (sym same) (take_rest bytes (2 * h.participants + 9)) ∙
-    sym (after_head (qualified_in s) h (omega (arith, s.few)) bytes (e ∙ ap (λ k. refused_as outside (header_of k bytes)) (sym same))) ∙
-    ap (λ k. judge k (qualified_in s) bytes) same
+by_its_lines : (qualified : ℕ → Bool) (h : Header) → h.participants ≤ 7 → (bytes : List ℕ) → Ok h ≡ header_of h.participants bytes →
+    judge h.participants qualified bytes
+    ≡ and_then (sums_of h.participants qualified h.lines 1 (drop (2 * h.participants + 9) bytes) zeros) (by_table h)
+by_its_lines qualified h few bytes e =
+    let n : ℕ = h.participants in
+    let rest : List ℕ = drop (2 * n + 9) bytes in
+    ap (λ r. and_then {E = RecordFault} (and_then (refused_as outside r) (λ g. and_then (lines_of n qualified g.lines 1 rest) (λ ls. Ok (certificate g ls)))) by_lines) (sym e) ∙
+    alike qualified h few (lines_of n qualified h.lines 1 rest) (λ ls p. lines_lawful n qualified h.lines 1 rest ls p) ∙
+    ap (λ r. and_then r (by_table h)) (sym (sums_are n qualified h.lines 1 rest zeros))
+
+pub judged : (n : ℕ) (qualified : ℕ → Bool) (h : Header) (bytes rest : List ℕ) (r : Result (List ℤ) RecordFault) → h.participants ≤ 7 → Ok h ≡ header_of n bytes →
+    r ≡ sums_of n qualified h.lines 1 rest zeros → rest ≡ drop (2 * n + 9) bytes → and_then r (by_table h) ≡ judge n qualified bytes
+judged n qualified h bytes rest r few e p at =
+    let same : h.participants ≡ n = ap (λ (g : Header). g.participants) (head_is n bytes h e) in
+    ap (λ x. and_then x (by_table h)) (p ∙ ap (λ b. sums_of n qualified h.lines 1 b zeros) at) ∙
+    sym (
+    subst (λ k. judge k qualified bytes ≡ and_then (sums_of k qualified h.lines 1 (drop (2 * k + 9) bytes) zeros) (by_table h)) same
+    (by_its_lines qualified h few bytes (e ∙ ap (λ k. header_of k bytes) (sym same))))

@@ -1,2 +1,4 @@
+pub mod Kinds
+pub mod Heads
 pub mod Sums
 pub mod Bounds

@@ -1,5 +1,5 @@
 -- The table of coefficients in which the lines are added up. Assumes nothing.
-use Rattle.std.specs.Prelude.{ℕ, zero, suc, ◌+◌, ◌*◌, ◌<◌, Bool, List, length, get_or, drop, ℤ, pos, ◌+ℤ◌, neg_ℤ, ◌≤ℤ◌, Ok, Result, ◌==◌, bit_and, bit_or, slice_index_or, slice_set}
+use Rattle.std.specs.Prelude.{ℕ, zero, suc, ◌+◌, max, Bool, List, [], ◌∷◌, length, get_or, drop, ℤ, pos, ◌+ℤ◌, neg_ℤ, unsigned_abs, Ok, Result, ◌==◌, bit_and, bit_or, slice_index_or, slice_set}
 use Rattle.polymatroid.specs.Sets.{secret}
 use Rattle.polymatroid.specs.declared.inequality.Inequality.{Inequality}
 use Rattle.polymatroid.specs.declared.inequality.Inequality.TheVariants.{Monotonicity, Submodularity, Correctness, Privacy}
@@ -32,12 +32,10 @@ sums_of n qualified zero i bytes table = tried (length bytes == 0) (outside Left
 sums_of n qualified (suc k) i bytes table =
     and_then (refused_as of_line (numbered_line n qualified i bytes)) (λ l. sums_of n qualified k (i + 1) (drop 6 bytes) (add_line table l))
 
--- what j additions come to at most
-abbrev pub Small : ℕ → ℤ → Type 0
-Small j z = (neg_ℤ (pos (2147483648 * j)) ≤ℤ z) × (z ≤ℤ pos (2147483648 * j))
-
-abbrev pub AllSmall : ℕ → List ℤ → Type 0
-AllSmall j table = (s : ℕ) → s < 256 → Small j (slice_index_or table s (pos 0))
+-- the largest absolute value in a table
+unfoldable pub peak : List ℤ → ℕ
+peak [] = 0
+peak (z ∷ table) = max (unsigned_abs z) (peak table)
 
 -- whether a table of coefficients is the claim at every set but the empty one
 abbrev pub settled : Header → List ℤ → Bool

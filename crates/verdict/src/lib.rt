@@ -2,11 +2,12 @@
 #![tactic(auto)]
 
 mod bounds;
+mod head;
 mod heads;
 mod judging;
+mod kinds;
 mod lines;
 mod sums;
-mod terms;
 
 pub use bounds::lower_bound;
 pub use heads::read_header;

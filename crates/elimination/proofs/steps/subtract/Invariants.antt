@@ -1,8 +1,8 @@
+use Rattle.std.proofs.Common.{◌≡◌, ℕ, ◌<◌, ◌≤◌, slice_index}
 use Rattle.span.specs.Dimension.{less}
-use Rattle.elimination.specs.Rows.{row}
-use Rattle.elimination.proofs.Places.{Writing}
 use Rattle.elimination.proofs.steps.subtract.Given as goal
 
 abbrev pub invariant-loop-k : goal.invariant-loop-k
 invariant-loop-k g l =
-    Writing l.d l.r l.k (λ j. less (g.F.Field.ops l.f) l.s (row l.initial.m l.d l.r j) (row l.initial.m l.d l.p j)) l.initial.m l.m
+    ((k : ℕ) → k < l.k → slice_index l.row k ≡ less (g.F.Field.ops l.f) l.s (slice_index l.initial.row k) (slice_index l.pivot k))
+    × ((k : ℕ) → l.k ≤ k → slice_index l.row k ≡ slice_index l.initial.row k)

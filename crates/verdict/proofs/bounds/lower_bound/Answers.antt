@@ -1,14 +1,13 @@
-use Rattle.std.proofs.Common.{sym, ◌∙◌}
-use Rattle.verdict.proofs.Typed.{typed_bytes}
-use Rattle.verdict.proofs.Proven.{proved_exactly, bounds}
+use Rattle.std.proofs.Common.{rules}
+use Rattle.verdict.proofs.Typed.{proved_exact}
+use Rattle.verdict.proofs.Proven.{bounds}
 use Rattle.verdict.proofs.bounds.lower_bound.Goals as goal
 
-pub returns : goal.returns
-returns c =
-    let structure = c.args.structure.now in
-    let certificate = c.args.certificate.now in
-    record {
-      value = c.bound_of.ensures;
-      exactly = λ count total. proved_exactly structure certificate count total (typed_bytes certificate c.type_inv.certificate);
-      binds = λ count total p. bounds structure certificate count total (sym c.bound_of.ensures ∙ p);
-    }
+pub returns-in_err-judge-clause-exactly : goal.returns-in_err-judge-clause-exactly
+returns-in_err-judge-clause-exactly c = proved_exact c.args.certificate.now c.type_inv.certificate c.args.structure.now
+
+pub returns-clause-exactly : goal.returns-clause-exactly
+returns-clause-exactly c = proved_exact c.args.certificate.now c.type_inv.certificate c.args.structure.now
+
+pub returns-clause-binds : goal.returns-clause-binds
+returns-clause-binds c count total p = bounds c.args.structure.now c.args.certificate.now count total (search rules)

@@ -1,15 +1,11 @@
-use Rattle.std.proofs.Common.{◌≡◌, ◌-◌, ◌++◌, drop, set, replicate, ap, ◌∙◌, ap₂, arith}
-use Rattle.certificate.specs.Format.{numbers}
-use Rattle.verdict.proofs.Weights.{written, weights_small}
+use Rattle.std.proofs.Common.{arith, rules}
+use Rattle.std.proofs.lemmas.List.{ext_get_or}
+use Rattle.access.specs.View.{participants_of}
+use Rattle.verdict.proofs.Weights.{length_weights}
 use Rattle.verdict.proofs.heads.weights_of.Goals as goal
 
-pub loop-i-preserved : goal.loop-i-preserved
-loop-i-preserved c =
-    ap₂ (λ ws x. set ws c.loop-i.i x) c.loop-i.invariant (c.from.ensures ∙ c.two_at.ensures) ∙ written c.loop-i.i c.args.bytes.now (omega arith)
-
-pub returns : goal.returns
-returns c =
-    let all : c.loop-i.i ≡ c.args.n = omega arith in
-    let value : c.loop-i.weights ≡ numbers c.args.n (drop 3 c.args.bytes.now) ++ replicate (7 - c.args.n) 0 =
-    c.loop-i.invariant ∙ ap (λ k. numbers k (drop 3 c.args.bytes.now) ++ replicate (7 - k) 0) all in
-    record { value = value; small = weights_small _ c.args.n c.args.bytes.now value (λ i. (c.type_inv.bytes i).fits) }
+pub returns-clause-value : goal.returns-clause-value
+returns-clause-value c =
+    let few = length_weights (participants_of c.args.structure.now) c.args.bytes.now (omega (arith, c.args.structure.now.few)) in
+    let items = c.from_fn.ensures.items in
+    ext_get_or 0 _ _ (search rules) (λ i l. let at = (items.at i 0 (omega (arith, items.long))).2 in search (rules, at))
