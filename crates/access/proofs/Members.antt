@@ -1,9 +1,8 @@
 -- Members of sets: what lies within what. Assumes nothing.
-use Rattle.std.proofs.Common.{◌≡◌, ℕ, ◌+◌, ◌-◌, ◌*◌, ◌/◌, ◌^◌, ◌<◌, ◌≤◌, sym, refl, ◌∙◌, arith, pow_pos, pow_mono, pow-add}
-use lib.Arith.{bin_ind}
-use lib.Bits.{bit_and, and_step, and_zero_r, and_high}
+use Rattle.std.proofs.Common.{◌≡◌, ℕ, ◌+◌, ◌-◌, ◌*◌, ◌/◌, ◌^◌, ◌<◌, ◌≤◌, sym, ap, ◌∙◌, arith, pow_pos, pow_mono, pow-add}
+use lib.Bits.{bit_and, and_zero_r, and_high}
 use lib.Pow.{shr_mod}
-use Rattle.std.proofs.lemmas.Nat.{and_mask}
+use Rattle.std.proofs.lemmas.Nat.{and_mask, and_assoc}
 use Rattle.polymatroid.specs.Sets.{InGround, Within, Coalition, everyone}
 
 -- a set of the secret and 7 or more participants may have any byte as its code
@@ -14,21 +13,9 @@ byte_in_ground n a many l = let p : 2 ^ 8 ≤ 2 ^ (n + 1) = pow_mono {i = 8} {j 
 pub ground_byte : (n a : ℕ) → n ≤ 7 → InGround n a → a < 256
 ground_byte n a few l = let p : 2 ^ (n + 1) ≤ 2 ^ 8 = pow_mono {i = n + 1} {j = 8} (omega arith) in omega arith
 
--- what lies within a lies within each b that a lies within, bit by bit
-abbrev Through : ℕ → Type 0
-Through g = (a b : ℕ) → Within a b → Within g a → Within g b
-
-pub within_trans : (g : ℕ) → Through g
-within_trans =
-    bin_ind Through (λ a b e f. refl)
-    (λ n ih a b e f.
-    let s₁ = and_step a b in
-    let s₂ = and_step n a in
-    let s₃ = and_step n b in
-    let ha : bit_and (a / 2) (b / 2) ≡ a / 2 = omega arith in
-    let hn : bit_and (n / 2) (a / 2) ≡ n / 2 = omega arith in
-    let r : bit_and (n / 2) (b / 2) ≡ n / 2 = ih (a / 2) (b / 2) ha hn in
-    omega arith)
+-- what lies within a lies within each b that a lies within
+pub within_trans : (g a b : ℕ) → Within a b → Within g a → Within g b
+within_trans g a b w v = ap (λ x. bit_and x b) (sym v) ∙ and_assoc b g a ∙ ap (bit_and g) w ∙ v
 
 -- the code of a coalition is even
 pub coalition_even : (n a : ℕ) → Coalition n a → 2 * (a / 2) ≡ a

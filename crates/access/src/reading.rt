@@ -1,10 +1,10 @@
 // The record of an access structure.
 ghost use Rattle.std.specs.Prelude.{◌≡◌, ℕ, List, Ok};
 ghost use Rattle.record.specs.Reading.{and_then};
-ghost use Rattle.access.specs.Format.{participants_in, sets_in, allowed, comparable, apart, antichain, listed_in, structure_in, LawfulSets, QualifiedExactly, MinimalExactly, ReadExactly};
+ghost use Rattle.access.specs.Format.{participants_in, sets_in, allowed, apart, antichain, listed_in, structure_in, LawfulSets, QualifiedExactly, MinimalExactly, ReadExactly};
 ghost use Rattle.access.specs.View.{viewed, ComesOutAt};
 
-use crate::sets::{is_coalition, is_within};
+use crate::sets::{are_comparable, is_coalition};
 use crate::structure::AccessStructure;
 use record::{Reason, RecordFault, is_marked, need};
 
@@ -15,13 +15,6 @@ fn are_allowed(n: u8, sets: &[u8]) -> bool
     ensures { result ≡ allowed n sets.now }
 {
     sets.iter().all(|set| is_coalition(n, *set) && *set != 0)
-}
-
-// Whether one of the sets contains or equals the other.
-fn are_comparable(a: u8, b: u8) -> bool
-    ensures { result ≡ comparable a b }
-{
-    is_within(a, b) || is_within(b, a)
 }
 
 // Whether the set is comparable with none of the others.

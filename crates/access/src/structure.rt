@@ -4,7 +4,7 @@ ghost use Rattle.access.specs.Table.{qualified_by};
 
 // Which coalitions of 1 to 7 participants can recover the secret: the coalition with the code 2 k stands at k.
 // Whoever joins a qualified coalition does not spoil it; the empty one is not qualified, that of all participants is.
-#[derive(Clone, Copy)]
+#[derive(Clone, Copy, Debug)]
 pub struct AccessStructure {
     pub(crate) participants: u8,
     pub(crate) qualified: [bool; 128],

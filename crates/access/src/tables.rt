@@ -52,7 +52,7 @@ impl AccessStructure {
         ensures value { result ≡ qualified_in self.now set }
         ensures lawful { IsAccessStructure (participants_of self.now) (qualified_in self.now) }
     {
-        self.qualified[(set / 2) as usize]
+        self.qualified[usize::from(set / 2)]
     }
 
     // Whether the coalition with the code 2 k is another one within the set, and qualified.

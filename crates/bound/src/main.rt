@@ -4,13 +4,14 @@
 
 use access::{AccessStructure, read_structure};
 use anyhow::anyhow;
+use certificate::Header;
 use record::Refusal;
 use std::process::ExitCode;
 use std::{env, fmt, fs, io};
 use verdict::{lower_bound, read_header};
 
 // A coalition is printed as {1, 2}.
-#[derive(Clone, Copy)]
+#[derive(Drop)]
 struct Coalition(u8);
 
 impl fmt::Display for Coalition {
@@ -21,19 +22,38 @@ impl fmt::Display for Coalition {
     }
 }
 
-fn print_structure(rt: &HostRuntime, structure: &AccessStructure) -> io::Result<()> {
-    println!(rt;
-        "access structure: {} participants",
-        structure.participants()
-    )?;
-    print!(rt; "minimal qualified sets:")?;
-    for set in (1u8..128)
-        .map(|k| 2 * k)
-        .filter(|set| structure.is_minimal(*set))
-    {
-        print!(rt; " {}", Coalition(set))?;
+// An access structure is printed in two lines.
+#[derive(Drop)]
+struct Rule<'a>(&'a AccessStructure);
+
+impl fmt::Display for Rule<'_> {
+    fn fmt<W: fmt::Write>(&self, f: &mut fmt::Formatter<W>) -> fmt::Result {
+        let participants = self.0.participants();
+        writeln!(f, "access structure: {participants} participants")?;
+        f.write_str("minimal qualified sets:")?;
+        for set in (1u8..128)
+            .map(|k| 2 * k)
+            .filter(|set| self.0.is_minimal(*set))
+        {
+            write!(f, " {}", Coalition(set))?;
+        }
+        Ok(())
     }
-    println!(rt; "")
+}
+
+// The head of a certificate is printed with the participants' weights alone.
+#[derive(Drop)]
+struct Head<'a>(&'a Header);
+
+impl fmt::Display for Head<'_> {
+    fn fmt<W: fmt::Write>(&self, f: &mut fmt::Formatter<W>) -> fmt::Result {
+        let header = self.0;
+        write!(f, "certificate: {} lines, weights", header.lines)?;
+        for weight in header.weights.iter().take(usize::from(header.participants)) {
+            write!(f, " {weight}")?;
+        }
+        write!(f, ", count {}", header.count)
+    }
 }
 
 // What the records hold, as far as they can be read.
@@ -41,9 +61,9 @@ fn print_records(rt: &HostRuntime, rule: &[u8], certificate: &[u8]) -> io::Resul
     let Ok(structure) = read_structure(rule) else {
         return Ok(());
     };
-    print_structure(rt, &structure)?;
+    println!(rt; "{}", Rule(&structure))?;
     if let Ok(header) = read_header(&structure, certificate) {
-        println!(rt; "certificate: {header}")?;
+        println!(rt; "{}", Head(&header))?;
     }
     Ok(())
 }

@@ -12,7 +12,7 @@ pub const CERTIFICATE: [u8; 89] = [
     0xFF, 0x1A, 0x00, 0x42, 0x4C, 0x00, 0x01, 0x12, 0x00,
 ];
 
-// 0, count and weight total of a bound, or number, entry and line of a refusal, 0 for none: as C and the program show it.
+// 0, count and weight total of a bound, or number, entry and line of a refusal, 0 for none: the numbers that the tests name.
 pub(crate) fn answer(structure: &[u8], certificate: &[u8]) -> (u32, u32, u32) {
     match lower_bound(structure, certificate) {
         Ok((count, total)) => (0, count, total),

@@ -3,7 +3,7 @@ use crate::records::CHAIN;
 use access::read_structure;
 use std::test::Fail;
 
-// The number of the refusal, or 0.
+// The number of the refusal, or 0: the number that the tests name.
 fn refusal(bytes: &[u8]) -> u32 {
     read_structure(bytes).map_or_else(|fault| fault.reason.number(), |_| 0)
 }

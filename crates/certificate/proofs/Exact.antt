@@ -1,13 +1,14 @@
 -- Certificates come out of exactly their own records, are taken exactly when right, and then bind. Assumes nothing.
-use Rattle.std.proofs.Common.{◌≡◌, ℕ, ◌+◌, ◌*◌, ◌^◌, ◌<◌, ◌≤◌, Bool, true, eqb, List, ◌++◌, drop, ℤ, pos, negsuc, Ok, Result, sym, refl, ap, ◌∙◌, subst, ap₂, inl, inr, arith}
+use Rattle.std.proofs.Common.{◌≡◌, ℕ, ◌+◌, ◌*◌, ◌^◌, ◌<◌, ◌⊎◌, ◌≤◌, Bool, true, eqb, List, ◌++◌, Decides, drop, ℤ, pos, negsuc, Ok, Result, sym, refl, ap, ◌∙◌, subst, ap₂, inl, inr, arith}
 use Rattle.std.specs.List.{flat_map}
 use Rattle.std.proofs.lemmas.List.{take-append-drop}
 use Rattle.std.proofs.ByRecursion.{All-drop}
-use Rattle.std.proofs.lemmas.Bool.{eqb-true, eq-eqb, or_cases, or_left, or_right, cases_eq, false≢true}
+use Rattle.std.proofs.lemmas.Bool.Decides.{Decides-eqb, Decides-or, Decides-below_and}
+use Rattle.std.proofs.lemmas.Bool.{eqb-true, eq-eqb, cases_eq, false≢true}
 use Rattle.polymatroid.specs.Sets.{InGround}
+use Rattle.polymatroid.specs.Tests.{all_below}
 use Rattle.polymatroid.specs.Certificate.{sum_to, combination, coefficient, Matches, LowerBound}
 use Rattle.polymatroid.specs.declared.inequality.Line.{Line}
-use Rattle.polymatroid.proofs.Decides.{below_each, all_pass}
 use Rattle.polymatroid.proofs.Soundness.{sound}
 use Rattle.record.specs.declared.faults.Reason.TheVariants.{SumDiffers}
 use Rattle.record.specs.declared.faults.RecordFault.{RecordFault}
@@ -58,10 +59,7 @@ module _ (n : ℕ) (qualified : ℕ → Bool) (bytes : List ℕ) where
 module _ (n : ℕ) (qualified : ℕ → Bool) where
   after_head : (bytes rest : List ℕ) (h : Header) (ls : List Line) → header_of n bytes ≡ Ok h → drop (2 * n + 9) bytes ≡ rest → lines_of n qualified h.lines 1 rest ≡ Ok ls →
       certificate_of n qualified bytes ≡ Ok (certificate h ls)
-  after_head bytes rest h ls p d q =
-      ap (λ r. and_then (refused_as outside r) (λ h. and_then (lines_of n qualified h.lines 1 (drop (2 * n + 9) bytes)) (λ ls. Ok (certificate h ls)))) p ∙
-      ap (λ r. and_then (lines_of n qualified h.lines 1 r) (λ ls. Ok (certificate h ls))) d ∙
-      ap (λ r. and_then {E = RecordFault} r (λ ls. Ok (certificate h ls))) q
+  after_head bytes rest h ls p d q = rw (p, d, q)
 
   certificate_read : (c : Certificate) → LawfulCertificate n qualified c → certificate_of n qualified (encode c) ≡ Ok c
   certificate_read c l =
@@ -93,23 +91,24 @@ equal_true (pos a) (negsuc b) p = absurd (false≢true p)
 equal_true (negsuc a) (pos b) p = absurd (false≢true p)
 equal_true (negsuc a) (negsuc b) p = ap negsuc (eqb-true a b p)
 
-pub equal_same : (z : ℤ) → equal z z ≡ true
+equal_same : (z : ℤ) → equal z z ≡ true
 equal_same (pos a) = eq-eqb a a refl
 equal_same (negsuc a) = eq-eqb a a refl
 
+equal_decides : (y z : ℤ) → Decides (equal y z) (y ≡ z)
+equal_decides y z = (equal_true y z, λ e. ap (equal y) (sym e) ∙ equal_same y)
+
 module _ (n : ℕ) (f g : ℕ → ℤ) where
+  agree_decides : Decides (agree n f g) ((s : ℕ) → InGround n s → (s ≡ 0) ⊎ (f s ≡ g s))
+  agree_decides =
+      Decides-below_and (agree_at f g) (λ s. (s ≡ 0) ⊎ (f s ≡ g s)) (λ k. all_below k (agree_at f g))
+      (λ s. Decides-or (eqb s 0) (equal (f s) (g s)) (Decides-eqb s 0) (equal_decides (f s) (g s))) refl (λ _. refl) (2 ^ (n + 1))
+
   pub agree_each : agree n f g ≡ true → (s : ℕ) → 1 ≤ s → InGround n s → f s ≡ g s
-  agree_each p s one ground =
-      elim (or_cases (eqb s 0) (equal (f s) (g s)) (below_each (agree_at f g) (2 ^ (n + 1)) s p ground)) [
-        | inl z ↦ absurd (omega (arith, eqb-true s 0 z))
-        | inr e ↦ equal_true (f s) (g s) e
-      ]
+  agree_each p s one ground = elim (agree_decides.0 p s ground) [ inl z ↦ absurd (omega arith) | inr e ↦ e ]
 
   pub agree_from : ((s : ℕ) → 1 ≤ s → InGround n s → f s ≡ g s) → agree n f g ≡ true
-  agree_from h = sym (all_pass (2 ^ (n + 1)) (agree_at f g) (λ s l. elim (cases_eq s 0) [
-    | inl z ↦ or_left (eqb s 0) (equal (f s) (g s)) (eq-eqb s 0 z)
-    | inr ne ↦ or_right (eqb s 0) (equal (f s) (g s)) (ap (equal (f s)) (sym (h s (omega arith) l)) ∙ equal_same (f s))
-  ]))
+  agree_from h = agree_decides.1 (λ s l. elim (cases_eq s 0) [ inl z ↦ inl z | inr ne ↦ inr (h s (omega arith) l) ])
 
 -- ---- taken exactly when right
 module _ (n : ℕ) (qualified : ℕ → Bool) where

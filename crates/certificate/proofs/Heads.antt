@@ -1,16 +1,18 @@
 -- A head that is read is lawful and stands in the bytes; the bytes of a lawful head are read as that head.
 -- Assumes nothing.
-use Rattle.std.proofs.Common.{◌≡◌, ℕ, zero, suc, ◌+◌, ◌-◌, ◌*◌, ◌<◌, ◌≤◌, ◌&&◌, eqb, ltb, leb, List, [], ◌∷◌, ◌++◌, length, get_or, take, drop, replicate, Ok, sym, refl, ap, ◌∙◌, subst, ap₂, arith, take-add}
+use Rattle.std.proofs.Common.{◌↔◌, ◌≡◌, ℕ, zero, suc, ◌+◌, ◌-◌, ◌*◌, ◌<◌, ◌≤◌, List, [], ◌∷◌, ◌++◌, length, get_or, take, drop, replicate, Ok, sym, refl, ap, ◌∙◌, subst, ap₂, inl, inr, arith, take-add}
 use Rattle.std.specs.List.{AllByRecursion, flat_map}
-use Rattle.std.proofs.lemmas.List.{length-append, length-replicate, length-take-le, length-drop, get_or-append_right, take_at, drop_at, append_assoc, take-append-drop, ext_get_or, get_or-drop}
+use Rattle.std.proofs.lemmas.List.{get_or-replicate, get_or_past, length-append, length-replicate, length-take-le, length-drop, get_or-append_right, take_at, drop_at, append_assoc, take-append-drop, ext_get_or, get_or-drop}
+use Rattle.std.proofs.lemmas.Nat.{div-add-mod'}
+use Rattle.std.proofs.lemmas.List.Elements.{All-replicate, recursion_from_All}
 use Rattle.std.proofs.ByRecursion.{All-append, All-drop}
-use Rattle.std.proofs.lemmas.Bool.{ltb-true, leb-true, eqb-true, and_parts, and_from, lt-ltb, le-leb, eq-eqb}
-use Rattle.record.specs.declared.faults.Reason.TheVariants.{CutShort, WrongMark, OutOfRange, ParticipantsDiffer}
-use Rattle.record.specs.Reading.{holds, byte, two, four, marked, two_bytes, four_bytes, Bytes}
-use Rattle.record.proofs.Trying.{tried_ok, tried_pass, ok_same}
-use Rattle.record.proofs.Stored.{two_stored, two_back, four_stored, four_back, two_small, four_small, two_drop, four_drop}
+use Rattle.std.proofs.lemmas.Bool.Decides.{Decides-eqb, Decides-ltb}
+use Rattle.std.proofs.lemmas.Bool.{cases_lt, leb-true, le-leb}
+use Rattle.record.specs.Reading.{byte, two, four, two_bytes, four_bytes, Bytes}
+use Rattle.record.proofs.Trying.{tried_says, ok_says, holds_decides, between_decides, marked_decides}
+use Rattle.record.proofs.Stored.{two_stored, four_stored, four_back, byte_small, first_bytes, two_small, four_small, two_drop, four_drop}
 use Rattle.certificate.specs.declared.header.Header.{Header}
-use Rattle.certificate.specs.Format.{certificate_mark, total_of, numbers, header_in, header_of, LawfulHeader, encode_header}
+use Rattle.certificate.specs.Format.{total_of, numbers, header_in, header_of, LawfulHeader, encode_header}
 
 -- ---- numbers of two bytes each
 pub length_numbers : (k : ℕ) (bytes : List ℕ) → length (numbers k bytes) ≡ k
@@ -23,12 +25,13 @@ numbers_small (suc k) bytes bs = (two_small bytes 0 bs, numbers_small k (drop 2 
 
 numbers_stored : (k : ℕ) (bytes : List ℕ) → 2 * k ≤ length bytes → Bytes bytes → flat_map two_bytes (numbers k bytes) ≡ take (2 * k) bytes
 numbers_stored zero bytes l bs = refl
-numbers_stored (suc k) [] l bs = absurd (omega arith)
-numbers_stored (suc k) (x ∷ []) l bs = absurd (omega arith)
-numbers_stored (suc k) (x ∷ y ∷ bytes) l bs =
-    let two-more : suc (suc (2 * k)) ≡ 2 * suc k = omega arith in
-    ap₂ (λ (u v : List ℕ). u ++ v) (two_stored x y bs.0 bs.1.0) (numbers_stored k bytes (omega arith) bs.1.1) ∙
-    ap (λ j. take j (x ∷ y ∷ bytes)) two-more
+numbers_stored (suc k) bytes l bs =
+    let this = two_stored (byte bytes 0) (byte bytes 1) (byte_small bytes 0 bs) (byte_small bytes 1 bs) in
+    let more = numbers_stored k (drop 2 bytes) (omega (arith, length-drop 2 bytes)) (All-drop (λ b. b < 256) 2 bytes bs) in
+    let front = first_bytes 2 bytes (omega arith) in
+    let whole = take-add 2 (2 * k) bytes in
+    let far : 2 + 2 * k ≡ 2 * suc k = omega arith in
+    cc
 
 pub length_stored : (ws : List ℕ) → length (flat_map two_bytes ws) ≡ 2 * length ws
 length_stored [] = refl
@@ -36,30 +39,32 @@ length_stored (w ∷ ws) = let ih = length_stored ws in omega arith
 
 numbers_back : (ws rest : List ℕ) → numbers (length ws) (flat_map two_bytes ws ++ rest) ≡ ws
 numbers_back [] rest = refl
-numbers_back (w ∷ ws) rest = ap₂ (λ (u : ℕ) (v : List ℕ). u ∷ v) (two_back w) (numbers_back ws rest)
+numbers_back (w ∷ ws) rest = ap₂ (λ (u : ℕ) (v : List ℕ). u ∷ v) (div-add-mod' w 256) (numbers_back ws rest)
 
--- ---- zeros
+-- ---- the weights, and 0 beyond them
 zeros_small : (k : ℕ) → AllByRecursion (λ w. w < 65536) (replicate k 0)
-zeros_small zero = tt
-zeros_small (suc k) = (omega arith, zeros_small k)
+zeros_small k = recursion_from_All (λ w. w < 65536) (replicate k 0) (All-replicate (λ w. w < 65536) k 0 (omega arith))
 
 zeros_at : (k i : ℕ) → ◌≡◌ {A = ℕ} (get_or (replicate k 0) i 0) 0
-zeros_at zero i = refl
-zeros_at (suc k) zero = refl
-zeros_at (suc k) (suc i) = zeros_at k i
+zeros_at k i = elim (cases_lt i k) [
+  | inl l ↦ get_or-replicate k i 0 0 l
+  | inr g ↦ get_or_past (replicate k 0) i 0 (omega (arith, length-replicate {A = ℕ} k 0))
+]
+
+module _ (n : ℕ) (bytes : List ℕ) where
+  pub weights_sized : n ≤ 7 → length (numbers n bytes ++ replicate (7 - n) 0) ≡ 7
+  weights_sized few = length-append (numbers n bytes) (replicate (7 - n) 0) ∙ omega (arith, length_numbers n bytes, length-replicate {A = ℕ} (7 - n) 0)
+
+  pub weights_beyond : (i : ℕ) → n ≤ i → get_or (numbers n bytes ++ replicate (7 - n) 0) i 0 ≡ 0
+  weights_beyond i l = get_or-append_right (numbers n bytes) (replicate (7 - n) 0) n i 0 (length_numbers n bytes) l ∙ zeros_at (7 - n) (i - n)
 
 -- ---- the last six bytes
 six_encoded : (ys : List ℕ) → 6 ≤ length ys → Bytes ys → four_bytes (four ys 0) ++ two_bytes (two ys 4) ≡ take 6 ys
-six_encoded [] l bs = absurd (omega arith)
-six_encoded (a ∷ []) l bs = absurd (omega arith)
-six_encoded (a ∷ b ∷ []) l bs = absurd (omega arith)
-six_encoded (a ∷ b ∷ c ∷ []) l bs = absurd (omega arith)
-six_encoded (a ∷ b ∷ c ∷ d ∷ []) l bs = absurd (omega arith)
-six_encoded (a ∷ b ∷ c ∷ d ∷ e ∷ []) l bs = absurd (omega arith)
-six_encoded (a ∷ b ∷ c ∷ d ∷ e ∷ f ∷ ys) l bs =
+six_encoded ys l bs =
     ap₂ (λ (u v : List ℕ). u ++ v)
-    (four_stored a b c d bs.0 bs.1.0 bs.1.1.0 bs.1.1.1.0)
-    (two_stored e f bs.1.1.1.1.0 bs.1.1.1.1.1.0)
+    (four_stored (byte ys 0) (byte ys 1) (byte ys 2) (byte ys 3) (byte_small ys 0 bs) (byte_small ys 1 bs) (byte_small ys 2 bs) (byte_small ys 3 bs))
+    (two_stored (byte ys 4) (byte ys 5) (byte_small ys 4 bs) (byte_small ys 5 bs)) ∙
+    sym (first_bytes 6 ys l)
 
 -- ---- what a head that is read says
 pub record HeadRead (n : ℕ) (bytes : List ℕ) : Type 0 where
@@ -74,95 +79,82 @@ pub record HeadRead (n : ℕ) (bytes : List ℕ) : Type 0 where
   pub lines_few : (header_in n bytes).lines ≤ 4096
 
 module _ (n : ℕ) (bytes : List ℕ) where
+  -- the tests one after another
+  head_says : (h : Header) → (header_of n bytes ≡ Ok h) ↔ ((2 ≤ length bytes) × (((byte bytes 0 ≡ 0x43) × (byte bytes 1 ≡ 0x45)) × ((3 ≤ length bytes) × (
+      ((1 ≤ byte bytes 2) × (byte bytes 2 ≤ 7)) × ((byte bytes 2 ≡ n) × ((2 * n + 9 ≤ length bytes) × ((0 < total_of (header_in n bytes)) × (
+      (1 ≤ (header_in n bytes).count) × (((1 ≤ (header_in n bytes).lines) × ((header_in n bytes).lines ≤ 4096)) × (header_in n bytes ≡ h))))))))))
+  head_says h =
+      tried_says _ _ _ h (holds_decides 2 bytes) (
+      tried_says _ _ _ h (marked_decides bytes 0x43 0x45) (
+      tried_says _ _ _ h (holds_decides 3 bytes) (
+      tried_says _ _ _ h (between_decides 1 (byte bytes 2) 7) (
+      tried_says _ _ _ h (Decides-eqb (byte bytes 2) n) (
+      tried_says _ _ _ h (holds_decides (2 * n + 9) bytes) (
+      tried_says _ _ _ h (Decides-ltb 0 (total_of (header_in n bytes))) (
+      tried_says _ _ _ h (leb-true 1 (header_in n bytes).count, le-leb 1 (header_in n bytes).count) (
+      tried_says _ _ _ h (between_decides 1 (header_in n bytes).lines 4096) (
+      ok_says (header_in n bytes) h)))))))))
+
   pub head_read : (h : Header) → header_of n bytes ≡ Ok h → HeadRead n bytes × (header_in n bytes ≡ h)
   head_read h p =
-      let p₁ = (tried_ok (holds 2 bytes) CutShort _ h p).1 in
-      let p₂ = tried_ok (marked bytes certificate_mark) WrongMark _ h p₁ in
-      let p₃ = (tried_ok (holds 3 bytes) CutShort _ h p₂.1).1 in
-      let p₄ = tried_ok (leb 1 (byte bytes 2) && leb (byte bytes 2) 7) OutOfRange _ h p₃ in
-      let p₅ = tried_ok (eqb (byte bytes 2) n) ParticipantsDiffer _ h p₄.1 in
-      let p₆ = tried_ok (holds (2 * n + 9) bytes) CutShort _ h p₅.1 in
-      let p₇ = tried_ok (ltb 0 (total_of (header_in n bytes))) OutOfRange _ h p₆.1 in
-      let p₈ = tried_ok (leb 1 (header_in n bytes).count) OutOfRange _ h p₇.1 in
-      let p₉ = tried_ok (leb 1 (header_in n bytes).lines && leb (header_in n bytes).lines 4096) OutOfRange (Ok (header_in n bytes)) h p₈.1 in
-      let m = and_parts (eqb (byte bytes 0) 0x43) (eqb (byte bytes 1) 0x45) p₂.0 in
-      let r = and_parts (leb 1 (byte bytes 2)) (leb (byte bytes 2) 7) p₄.0 in
-      let s = and_parts (leb 1 (header_in n bytes).lines) (leb (header_in n bytes).lines 4096) p₉.0 in
-      let e : byte bytes 2 ≡ n = eqb-true (byte bytes 2) n p₅.0 in (
+      let (_, (mark, (_, (between, (here, (long, (weighed, (counted, (lined, same))))))))) = (head_says h).0 p in (
         record {
-          mark = (eqb-true (byte bytes 0) 0x43 m.0, eqb-true (byte bytes 1) 0x45 m.1);
-          participants = e;
-          some = omega (arith, leb-true 1 (byte bytes 2) r.0);
-          few = omega (arith, leb-true (byte bytes 2) 7 r.1);
-          long = leb-true (2 * n + 9) (length bytes) p₆.0;
-          weighed = ltb-true 0 (total_of (header_in n bytes)) p₇.0;
-          counted = leb-true 1 (header_in n bytes).count p₈.0;
-          lined = leb-true 1 (header_in n bytes).lines s.0;
-          lines_few = leb-true (header_in n bytes).lines 4096 s.1;
+          mark = mark;
+          participants = here;
+          some = omega (arith, between);
+          few = omega (arith, between);
+          long = long;
+          weighed = weighed;
+          counted = counted;
+          lined = lined.0;
+          lines_few = lined.1;
         },
-        ok_same (header_in n bytes) h p₉.1,
+        same,
       )
 
   -- the same tests, passed
   pub head_passed : HeadRead n bytes → header_of n bytes ≡ Ok (header_in n bytes)
   head_passed r =
-      tried_pass (holds 2 bytes) CutShort _ (le-leb 2 (length bytes) (omega (arith, r.long))) ∙
-      tried_pass (marked bytes certificate_mark) WrongMark _ (and_from (eqb (byte bytes 0) 0x43) (eqb (byte bytes 1) 0x45) (eq-eqb (byte bytes 0) 0x43 r.mark.0) (eq-eqb (byte bytes 1) 0x45 r.mark.1)) ∙
-      tried_pass (holds 3 bytes) CutShort _ (le-leb 3 (length bytes) (omega (arith, r.long))) ∙
-      tried_pass (leb 1 (byte bytes 2) && leb (byte bytes 2) 7) OutOfRange _
-      (and_from (leb 1 (byte bytes 2)) (leb (byte bytes 2) 7) (le-leb 1 (byte bytes 2) (omega (arith, r.some, r.participants))) (le-leb (byte bytes 2) 7 (omega (arith, r.few, r.participants)))) ∙
-      tried_pass (eqb (byte bytes 2) n) ParticipantsDiffer _ (eq-eqb (byte bytes 2) n r.participants) ∙
-      tried_pass (holds (2 * n + 9) bytes) CutShort _ (le-leb (2 * n + 9) (length bytes) r.long) ∙
-      tried_pass (ltb 0 (total_of (header_in n bytes))) OutOfRange _ (lt-ltb 0 (total_of (header_in n bytes)) r.weighed) ∙
-      tried_pass (leb 1 (header_in n bytes).count) OutOfRange _ (le-leb 1 (header_in n bytes).count r.counted) ∙
-      tried_pass (leb 1 (header_in n bytes).lines && leb (header_in n bytes).lines 4096) OutOfRange (Ok (header_in n bytes))
-      (and_from (leb 1 (header_in n bytes).lines) (leb (header_in n bytes).lines 4096) (le-leb 1 (header_in n bytes).lines r.lined) (le-leb (header_in n bytes).lines 4096 r.lines_few))
+      let between : (1 ≤ byte bytes 2) × (byte bytes 2 ≤ 7) = (omega (arith, r.some, r.participants), omega (arith, r.few, r.participants)) in
+      (head_says (header_in n bytes)).1
+      (omega (arith, r.long), (r.mark, (omega (arith, r.long), (between, (r.participants, (r.long, (r.weighed, (r.counted, ((r.lined, r.lines_few), refl)))))))))
 
   pub head_lawful : HeadRead n bytes → Bytes bytes → LawfulHeader n (header_in n bytes)
   head_lawful r bs = record {
     participants = refl;
     some = r.some;
     few = r.few;
-    sized = length-append (numbers n (drop 3 bytes)) (replicate (7 - n) 0) ∙ ap₂ (λ x y. x + y) (length_numbers n (drop 3 bytes)) (length-replicate (7 - n) 0) ∙ full n r.few;
+    sized = weights_sized n (drop 3 bytes) r.few;
     small = All-append (λ w. w < 65536) (numbers n (drop 3 bytes)) (replicate (7 - n) 0) (numbers_small n (drop 3 bytes) (All-drop (λ b. b < 256) 3 bytes bs)) (zeros_small (7 - n));
-    beyond = λ k l. get_or-append_right (numbers n (drop 3 bytes)) (replicate (7 - n) 0) n k 0 (length_numbers n (drop 3 bytes)) l ∙ zeros_at (7 - n) (k - n);
+    beyond = weights_beyond n (drop 3 bytes);
     weighed = r.weighed;
     counted = r.counted;
     count_small = four_small bytes (2 * n + 3) bs;
     lined = r.lined;
     lines_few = r.lines_few;
   }
-    where
-      full : (n : ℕ) → n ≤ 7 → n + (7 - n) ≡ 7
-      full n l = omega arith
 
 -- ---- the bytes of a head that is read
 body_encoded : (n : ℕ) (xs : List ℕ) → 2 * n + 6 ≤ length xs → Bytes xs →
     flat_map two_bytes (numbers n xs) ++ (four_bytes (four xs (2 * n)) ++ two_bytes (two xs (2 * n + 4))) ≡ take (2 * n + 6) xs
 body_encoded n xs l bs =
-    let ys : List ℕ = drop (2 * n) xs in
-    let long : 6 ≤ length ys = omega (arith, length-drop (2 * n) xs) in
-    ap₂ (λ (u v : List ℕ). u ++ v) (numbers_stored n xs (omega arith) bs)
-    (ap₂ (λ u v. four_bytes u ++ two_bytes v) (sym (four_drop (2 * n) xs 0 (2 * n) (omega arith))) (sym (two_drop (2 * n) xs 4 (2 * n + 4) refl)) ∙
-    six_encoded ys long (All-drop (λ b. b < 256) (2 * n) xs bs)) ∙
-    sym (take-add (2 * n) 6 xs)
+    let weights = numbers_stored n xs (omega arith) bs in
+    let count = four_drop (2 * n) xs 0 (2 * n) (omega arith) in
+    let lines = two_drop (2 * n) xs 4 (2 * n + 4) refl in
+    let six = six_encoded (drop (2 * n) xs) (omega (arith, length-drop (2 * n) xs)) (All-drop (λ b. b < 256) (2 * n) xs bs) in
+    let whole = take-add (2 * n) 6 xs in
+    cc
 
 pub head_encoded : (n : ℕ) (bytes : List ℕ) → HeadRead n bytes → Bytes bytes → encode_header (header_in n bytes) ≡ take (2 * n + 9) bytes
-head_encoded n [] r bs = absurd (omega (arith, r.long))
-head_encoded n (a ∷ []) r bs = absurd (omega (arith, r.long))
-head_encoded n (a ∷ b ∷ []) r bs = absurd (omega (arith, r.long))
-head_encoded n (a ∷ b ∷ c ∷ xs) r bs =
-    let bytes : List ℕ = a ∷ b ∷ c ∷ xs in
-    let long : 2 * n + 6 ≤ length xs = omega (arith, r.long) in
-    let three-more : suc (suc (suc (2 * n + 6))) ≡ 2 * n + 9 = omega arith in
-    ap (λ (ws : List ℕ). 0x43 ∷ 0x45 ∷ n ∷ (flat_map two_bytes ws ++ (four_bytes (four bytes (2 * n + 3)) ++ two_bytes (two bytes (2 * n + 7)))))
-    (take_at (numbers n xs) (replicate (7 - n) 0) n (length_numbers n xs)) ∙
-    ap₂ (λ u v. 0x43 ∷ 0x45 ∷ n ∷ (flat_map two_bytes (numbers n xs) ++ (four_bytes u ++ two_bytes v)))
-    (sym (four_drop 3 bytes (2 * n) (2 * n + 3) (omega arith))) (sym (two_drop 3 bytes (2 * n + 4) (2 * n + 7) (omega arith))) ∙
-    ap (λ (ys : List ℕ). 0x43 ∷ 0x45 ∷ n ∷ ys) (body_encoded n xs long bs.1.1.1) ∙
-    ap₂ (λ x y. x ∷ y ∷ n ∷ take (2 * n + 6) xs) (sym r.mark.0) (sym r.mark.1) ∙
-    ap (λ z. a ∷ b ∷ z ∷ take (2 * n + 6) xs) (sym r.participants) ∙
-    ap (λ j. take j bytes) three-more
+head_encoded n bytes r bs =
+    let weights = take_at (numbers n (drop 3 bytes)) (replicate (7 - n) 0) n (length_numbers n (drop 3 bytes)) in
+    let count = four_drop 3 bytes (2 * n) (2 * n + 3) (omega arith) in
+    let lines = two_drop 3 bytes (2 * n + 4) (2 * n + 7) (omega arith) in
+    let body = body_encoded n (drop 3 bytes) (omega (arith, r.long, length-drop 3 bytes)) (All-drop (λ b. b < 256) 3 bytes bs) in
+    let front = first_bytes 3 bytes (omega (arith, r.long)) in
+    let whole = take-add 3 (2 * n + 6) bytes in
+    let far : 3 + (2 * n + 6) ≡ 2 * n + 9 = omega arith in
+    cc
 
 -- ---- the bytes of a lawful head
 module _ (n : ℕ) (h : Header) (lawful : LawfulHeader n h) (rest : List ℕ) where
@@ -194,7 +186,7 @@ module _ (n : ℕ) (h : Header) (lawful : LawfulHeader n h) (rest : List ℕ) wh
   lines_back : two behind (2 * n + 4) ≡ h.lines
   unfolding ending
   lines_back =
-      sym (two_drop (2 * n) behind 4 (2 * n + 4) refl) ∙ ap (λ (ys : List ℕ). two ys 4) ends ∙ two_back h.lines
+      sym (two_drop (2 * n) behind 4 (2 * n + 4) refl) ∙ ap (λ (ys : List ℕ). two ys 4) ends ∙ div-add-mod' h.lines 256
 
   zeros_beyond : replicate (7 - n) 0 ≡ drop n h.weights
   zeros_beyond =

@@ -29,9 +29,9 @@ abbrev pub ZeroLeft : Ops → ℕ → List ℕ → Type 0
 ZeroLeft o c r = (k : ℕ) → k < c → code o.order (slice_index r k) ≡ 0
 
 -- the first d codes of the i-th row are those of the vector v i
-abbrev pub Holds : ℕ → (ℕ → Vector) → List (List ℕ) → Type 0
-Holds d v rows = (i k : ℕ) → i < length rows → k < d → entry rows i k ≡ v i k
+abbrev pub RowsAre : ℕ → (ℕ → Vector) → List (List ℕ) → Type 0
+RowsAre d v rows = (i k : ℕ) → i < length rows → k < d → entry rows i k ≡ v i k
 
--- over any columns from the first on, the rows span what they did
+-- over the first d columns, for any d up to a row's 16, the rows span what they did
 abbrev pub SpanKept : Ops → (rows rows' : List (List ℕ)) → Type 0
 SpanKept o rows rows' = (d : ℕ) → d ≤ 16 → SameSpan o d (vectors rows) (vectors rows')

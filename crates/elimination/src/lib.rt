@@ -2,7 +2,7 @@
 #![tactic(auto)]
 
 ghost use Rattle.std.specs.Prelude.{◌≡◌, ℕ, ◌*◌, ◌<◌, ◌≤◌, length, slice_index};
-ghost use Rattle.elimination.specs.Rows.{row, Holds};
+ghost use Rattle.elimination.specs.Rows.{row, RowsAre};
 ghost use Rattle.elimination.specs.Rank.{count_in, rank_of, CountsBasis};
 
 use crate::turns::eliminate;
@@ -40,11 +40,12 @@ pub fn rank<F: Field>(f: &F, vectors: &[u8], width: usize) -> Option<u8>
     Some(eliminate(f, rows, 0, width) as u8)
 }
 
-// Writes a vector to the front of each row. A `zip` of `iter_mut` with `chunks_exact` leaves nothing known of the rows.
+// Writes a vector to the front of each row. Tried with `zip` of `iter_mut` and `chunks_exact`: the proof does not close, since
+// nothing is then known of the rows.
 fn fill(rows: &mut [Row], vectors: &[u8], width: usize)
     requires whole { length rows.old * width ≡ length vectors.now }
     requires narrow { width ≤ WIDTH }
-    ensures { Holds width (row vectors.now width) rows.new }
+    ensures { RowsAre width (row vectors.now width) rows.new }
 {
     let mut rest = vectors;
     for row in rows {

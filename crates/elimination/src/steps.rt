@@ -1,13 +1,14 @@
-// The steps of elimination, on rows of 16 codes. A column is a plain index, asked to be below 16 wherever one is taken: a type of its
-// own would be made at each call and opened at each use.
+// The steps of elimination, on rows of 16 codes.
 ghost use Rattle.std.specs.Prelude.{◌≡◌, ℕ, ◌<◌, position, slice_index};
 ghost use Rattle.span.specs.Dimension.{less, minus};
-ghost use Rattle.elimination.specs.Rows.{entry, nonzero_at, Holds};
+ghost use Rattle.elimination.specs.Rows.{entry, nonzero_at, RowsAre};
 
 use crate::{Row, WIDTH};
 use field::Field;
+use std::array;
 
-// The first row that is not 0 at column c.
+// The first row that is not 0 at column c. A column is a plain index below 16 here and in `clear` and `turn`: a type for it would
+// be made at each call and opened at each use.
 pub(crate) fn seek<F: Field>(f: &F, rows: &[Row], c: usize) -> Option<usize>
     requires { c < WIDTH }
     ensures { result ≡ position (nonzero_at (F.ops f.now) c) rows.now }
@@ -33,15 +34,13 @@ fn subtracted<F: Field>(f: &F, s: u8, x: u8, y: u8) -> u8
 fn subtract<F: Field>(f: &F, row: &mut Row, pivot: &Row, s: u8)
     ensures { (k : ℕ) → k < WIDTH → slice_index row.new k ≡ less (F.ops f.now) s (slice_index row.old k) (slice_index pivot.now k) }
 {
-    for (k, x) in row.iter_mut().enumerate() {
-        *x = subtracted(f, s, *x, pivot[k]);
-    }
+    *row = array::from_fn(|k| subtracted(f, s, row[k], pivot[k]));
 }
 
 // Takes from each row as much of the pivot as its code at column c says.
 pub(crate) fn clear<F: Field>(f: &F, rows: &mut [Row], pivot: &Row, c: usize)
     requires { c < WIDTH }
-    ensures { Holds WIDTH (λ i. minus (F.ops f.now) (entry rows.old i) (entry rows.old i c) (slice_index pivot.now)) rows.new }
+    ensures { RowsAre WIDTH (λ i. minus (F.ops f.now) (entry rows.old i) (entry rows.old i c) (slice_index pivot.now)) rows.new }
 {
     for row in rows {
         let s = row[c];

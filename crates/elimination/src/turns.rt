@@ -35,7 +35,8 @@ fn turn<F: Field>(f: &F, pivot: &mut Row, below: &mut [Row], c: usize)
 }
 
 // The dimension of the span of the rows' first d codes, by elimination in place: the rows at exit span what they spanned
-// at entry. Column c comes first, left of which the rows are 0; a row that was the pivot's is done with.
+// at entry. Column c comes first, left of which the rows are 0; a row that was the pivot's is done with. By recursion, so that each
+// call speaks of the rows and columns that are left, where a loop's invariant would speak of those that are done with too.
 pub(crate) fn eliminate<F: Field>(f: &F, rows: &mut [Row], c: usize, d: usize) -> usize
     requires within { c ≤ d }
     requires narrow { d ≤ WIDTH }
@@ -50,8 +51,8 @@ pub(crate) fn eliminate<F: Field>(f: &F, rows: &mut [Row], c: usize, d: usize) -
     match seek(f, rows, c) {
         Some(p) => {
             exchange(rows, p);
-            let (first, below) = rows.split_at_mut(1);
-            turn(f, &mut first[0], below, c);
+            let (pivot, below) = rows.split_first_mut().unwrap();
+            turn(f, pivot, below, c);
             1 + eliminate(f, below, c + 1, d)
         }
         None => eliminate(f, rows, c + 1, d),

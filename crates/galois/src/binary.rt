@@ -8,7 +8,7 @@ use field::Field;
 
 // The field of order 4 or 8. Not one type with `Prime`: only `order` would be shared, every other method and the
 // invariant differ.
-#[derive(Clone, Copy)]
+#[derive(Clone, Copy, Debug)]
 pub struct Binary {
     pub q: u8,
     ghost listed: { is_computed_order q ≡ true },

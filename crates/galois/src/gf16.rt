@@ -6,7 +6,7 @@ ghost use Rattle.galois.specs.Orders.{binary_laws};
 use field::Field;
 
 // The field of order 16.
-#[derive(Clone, Copy)]
+#[derive(Clone, Copy, Debug)]
 pub struct Gf16;
 
 // The product of the codes a and b stands in row a at b.
@@ -35,7 +35,7 @@ fn product_at(table: &[[u8; 16]; 16], a: u8, b: u8) -> u8
     requires codes { (a < 16) × (b < 16) }
     ensures { result ≡ times 16 a b }
 {
-    table[a as usize][b as usize]
+    table[usize::from(a)][usize::from(b)]
 }
 
 // Polynomials over GF(2) modulo y^4 + y + 1, by a table of products.

@@ -5,7 +5,7 @@ ghost use Rattle.galois.specs.Orders.{prime_laws};
 use field::Field;
 
 // The field of prime order q: 2, 3, 5, 7, 11 or 13.
-#[derive(Clone, Copy)]
+#[derive(Clone, Copy, Debug)]
 pub struct Prime {
     pub q: u8,
     ghost listed: { is_prime_order q ≡ true },

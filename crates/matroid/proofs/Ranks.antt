@@ -1,98 +1,67 @@
 -- The rank of a closure test: order, closure, growth, diminishing returns. Assumes nothing.
-use mathlib.Core.Path.{◌≡◌, refl, sym, ap, ap₂, subst, ◌∙◌}
+use mathlib.Core.Path.{◌≡◌, refl, sym, ap, subst, ◌∙◌}
 use mathlib.Core.Bool.{Bool, true, false, cond}
 use mathlib.Core.List.Memᴰ
-use mathlib.Core.List.{List, [], ◌∷◌, ◌++◌}
-use mathlib.Core.Logic.{inl, inr}
-use Prim.Native.Nat.{ℕ, suc, ◌+◌, ◌≤◌}
+use mathlib.Core.List.{List, [], ◌∷◌, ◌++◌, Memᴰ}
+use Prim.Native.Nat.{◌+◌, ◌≤◌}
 use native.Mathlib.Omega.{arith}
 use lib.Dec.{T}
 use lib.ListN.{length}
+use Rattle.std.proofs.lemmas.List.{append-nil}
 use Rattle.matroid.specs.Closure.{Among, Spanned, Closure, Independent, rank}
 use Rattle.matroid.specs.Theorems.{RankLaws}
+use Rattle.matroid.proofs.Lists.{first_or, in_both}
 
--- two tests that agree count the same; one that holds more often counts less
-same_gain : (x y : Bool) → (T x → T y) → (T y → T x) → ◌≡◌ {A = ℕ} (cond x 0 1) (cond y 0 1)
-same_gain true true f g = refl
-same_gain true false f g = absurd (f tt)
-same_gain false true f g = absurd (g tt)
-same_gain false false f g = refl
-
-less_gain : (x y : Bool) → (T x → T y) → ◌≤◌ (cond y 0 1) (cond x 0 1)
+-- a test that holds more often counts less
+pub less_gain : (x y : Bool) → (T x → T y) → ◌≤◌ (cond y 0 1) (cond x 0 1)
 less_gain true true f = omega arith
 less_gain true false f = absurd (f tt)
 less_gain false true f = omega arith
 less_gain false false f = omega arith
 
-no_gain : (x : Bool) (n : ℕ) → T x → n + cond x 0 1 ≡ n
-no_gain true n t = omega arith
-no_gain false n t = absurd t
-
-gained : (x : Bool) (m n : ℕ) → (T x → ⊥) → m ≡ n → suc m ≡ n + cond x 0 1
-gained true m n f e = absurd (f tt)
-gained false m n f e = omega arith
-
 -- lists with the same elements
-pub front : {E : Type 0} (y : E) (xs ys : List E) → Among (xs ++ (y ∷ ys)) (y ∷ (xs ++ ys))
-front y xs ys x m = elim (Memᴰ.append_cases xs m) [
-  | inl k ↦ Memᴰ.tail (Memᴰ.append_left ys k)
-  | inr k ↦ elim (Memᴰ.cases_cons k) [ inl e ↦ Memᴰ.head e | inr j ↦ Memᴰ.tail (Memᴰ.append_right xs j) ]
-]
+front : {E : Type 0} (y : E) (xs ys : List E) → Among (xs ++ (y ∷ ys)) (y ∷ (xs ++ ys))
+front y xs ys =
+    in_both (λ x. Memᴰ x (y ∷ (xs ++ ys))) xs (y ∷ ys) (λ x m. Memᴰ.tail (Memᴰ.append_left ys m))
+    (first_or (λ x. Memᴰ x (y ∷ (xs ++ ys))) y ys (Memᴰ.head refl) (λ x m. Memᴰ.tail (Memᴰ.append_right xs m)))
 
-pub front_back : {E : Type 0} (y : E) (xs ys : List E) → Among (y ∷ (xs ++ ys)) (xs ++ (y ∷ ys))
-front_back y xs ys x m = elim (Memᴰ.cases_cons m) [
-  | inl e ↦ Memᴰ.append_right xs (Memᴰ.head e)
-  | inr k ↦ elim (Memᴰ.append_cases xs k) [ inl j ↦ Memᴰ.append_left (y ∷ ys) j | inr j ↦ Memᴰ.append_right xs (Memᴰ.tail j) ]
-]
+front_back : {E : Type 0} (y : E) (xs ys : List E) → Among (y ∷ (xs ++ ys)) (xs ++ (y ∷ ys))
+front_back y xs ys =
+    first_or (λ x. Memᴰ x (xs ++ (y ∷ ys))) y (xs ++ ys) (Memᴰ.append_right xs (Memᴰ.head refl))
+    (in_both (λ x. Memᴰ x (xs ++ (y ∷ ys))) xs ys (λ x m. Memᴰ.append_left (y ∷ ys) m) (λ x m. Memᴰ.append_right xs (Memᴰ.tail m)))
 
-pub turned : {E : Type 0} (xs ys : List E) → Among (xs ++ ys) (ys ++ xs)
-turned xs ys x m = elim (Memᴰ.append_cases xs m) [ inl k ↦ Memᴰ.append_right ys k | inr k ↦ Memᴰ.append_left xs k ]
+turned : {E : Type 0} (xs ys : List E) → Among (xs ++ ys) (ys ++ xs)
+turned xs ys = in_both (λ x. Memᴰ x (ys ++ xs)) xs ys (λ x m. Memᴰ.append_right ys m) (λ x m. Memᴰ.append_left xs m)
 
 -- the same list in front of both
-pub under : {E : Type 0} (zs xs ys : List E) → Among xs ys → Among (zs ++ xs) (zs ++ ys)
-under zs xs ys i x m = elim (Memᴰ.append_cases zs m) [ inl k ↦ Memᴰ.append_left ys k | inr k ↦ Memᴰ.append_right zs (i x k) ]
+under : {E : Type 0} (zs xs ys : List E) → Among xs ys → Among (zs ++ xs) (zs ++ ys)
+under zs xs ys i = in_both (λ x. Memᴰ x (zs ++ ys)) zs xs (λ x m. Memᴰ.append_left ys m) (λ x m. Memᴰ.append_right zs (i x m))
 
 module _ {E : Type 0} {cl : E → List E → Bool} (L : Closure E cl) where
   pub wider : (a : E) (xs ys : List E) → Among xs ys → T (cl a xs) → T (cl a ys)
   wider a xs ys i t = L.transitive a xs ys t (λ x m. L.member x ys (i x m))
 
   pub cut : (a b : E) (ws : List E) → T (cl b ws) → T (cl a (b ∷ ws)) → T (cl a ws)
-  cut a b ws t s = L.transitive a (b ∷ ws) ws s (λ x m. elim (Memᴰ.cases_cons m) [
-    | inl e ↦ subst (λ y. T (cl y ws)) (sym e) t
-    | inr k ↦ L.member x ws k
-  ])
+  cut a b ws t s = L.transitive a (b ∷ ws) ws s (first_or (λ x. T (cl x ws)) b ws t (λ x m. L.member x ws m))
 
   more : (a b : E) (ws : List E) → T (cl a ws) → T (cl a (b ∷ ws))
   more a b ws = wider a ws (b ∷ ws) (λ x m. Memᴰ.tail m)
 
-  pub rank_swap : (a b : E) (ws : List E) → rank cl (a ∷ b ∷ ws) ≡ rank cl (b ∷ a ∷ ws)
-  rank_swap a b ws =
-      go (cl a ws) (cl b ws) (cl a (b ∷ ws)) (cl b (a ∷ ws)) (more a b ws) (more b a ws) (cut b a ws) (cut a b ws)
-      (L.exchange a b ws) (L.exchange b a ws)
+  swap_less : (a b : E) (ws : List E) → rank cl (a ∷ b ∷ ws) ≤ rank cl (b ∷ a ∷ ws)
+  swap_less a b ws = go (cl a ws) (cl b ws) (cl a (b ∷ ws)) (cl b (a ∷ ws)) (more a b ws) (cut b a ws) (L.exchange b a ws)
     where
-      go : (x y u w : Bool) → (T x → T u) → (T y → T w) → (T x → T w → T y) → (T y → T u → T x)
-          → ((T x → ⊥) → T u → T w) → ((T y → ⊥) → T w → T u)
-          → rank cl ws + cond y 0 1 + cond u 0 1 ≡ rank cl ws + cond x 0 1 + cond w 0 1
-      go true true true true f1 f2 f3 f4 f5 f6 = refl
-      go true true true false f1 f2 f3 f4 f5 f6 = absurd (f2 tt)
-      go true true false true f1 f2 f3 f4 f5 f6 = absurd (f1 tt)
-      go true true false false f1 f2 f3 f4 f5 f6 = absurd (f1 tt)
-      go true false true true f1 f2 f3 f4 f5 f6 = absurd (f3 tt tt)
-      go true false true false f1 f2 f3 f4 f5 f6 = omega arith
-      go true false false true f1 f2 f3 f4 f5 f6 = absurd (f1 tt)
-      go true false false false f1 f2 f3 f4 f5 f6 = absurd (f1 tt)
-      go false true true true f1 f2 f3 f4 f5 f6 = absurd (f4 tt tt)
-      go false true true false f1 f2 f3 f4 f5 f6 = absurd (f2 tt)
-      go false true false true f1 f2 f3 f4 f5 f6 = omega arith
-      go false true false false f1 f2 f3 f4 f5 f6 = absurd (f2 tt)
-      go false false true true f1 f2 f3 f4 f5 f6 = refl
-      go false false true false f1 f2 f3 f4 f5 f6 = absurd (f5 (λ z. z) tt)
-      go false false false true f1 f2 f3 f4 f5 f6 = absurd (f6 (λ z. z) tt)
-      go false false false false f1 f2 f3 f4 f5 f6 = refl
+      go : (x y u w : Bool) → (T x → T u) → (T x → T w → T y) → ((T y → ⊥) → T w → T u)
+          → rank cl ws + cond y 0 1 + cond u 0 1 ≤ rank cl ws + cond x 0 1 + cond w 0 1
+      go true y u w f g h = omega (arith, less_gain true u f, less_gain w y (g tt))
+      go false true u w f g h = omega (arith, less_gain false u (λ z. absurd z))
+      go false false u w f g h = omega (arith, less_gain w u (h (λ z. z)))
+
+  rank_swap : (a b : E) (ws : List E) → rank cl (a ∷ b ∷ ws) ≡ rank cl (b ∷ a ∷ ws)
+  rank_swap a b ws = omega (arith, swap_less a b ws, swap_less b a ws)
 
   -- a first element counts the same before two lists with the same elements
   step : (a : E) (xs ys : List E) → Among xs ys → Among ys xs → rank cl xs ≡ rank cl ys → rank cl (a ∷ xs) ≡ rank cl (a ∷ ys)
-  step a xs ys i j e = ap₂ (λ (m n : ℕ). m + n) e (same_gain (cl a xs) (cl a ys) (wider a xs ys i) (wider a ys xs j))
+  step a xs ys i j e = omega (arith, e, less_gain (cl a xs) (cl a ys) (wider a xs ys i), less_gain (cl a ys) (cl a xs) (wider a ys xs j))
 
   pub rank_front : (y : E) (xs ys : List E) → rank cl (xs ++ (y ∷ ys)) ≡ rank cl (y ∷ (xs ++ ys))
   rank_front y [] ys = refl
@@ -100,11 +69,7 @@ module _ {E : Type 0} {cl : E → List E → Bool} (L : Closure E cl) where
       step x (xs ++ (y ∷ ys)) (y ∷ (xs ++ ys)) (front y xs ys) (front_back y xs ys) (rank_front y xs ys) ∙ rank_swap x y (xs ++ ys)
 
   pub rank_turned : (xs ys : List E) → rank cl (xs ++ ys) ≡ rank cl (ys ++ xs)
-  rank_turned [] ys = sym (ap (rank cl) (append_nil ys))
-    where
-      append_nil : (zs : List E) → zs ++ [] ≡ zs
-      append_nil [] = refl
-      append_nil (z ∷ zs) = ap (λ l. z ∷ l) (append_nil zs)
+  rank_turned [] ys = sym (ap (rank cl) (append-nil ys))
   rank_turned (x ∷ xs) ys =
       step x (xs ++ ys) (ys ++ xs) (turned xs ys) (turned ys xs) (rank_turned xs ys) ∙ sym (rank_front x ys xs)
 
@@ -112,8 +77,8 @@ module _ {E : Type 0} {cl : E → List E → Bool} (L : Closure E cl) where
   pub rank_closed : (xs ys : List E) → Spanned cl xs ys → rank cl (xs ++ ys) ≡ rank cl ys
   rank_closed [] ys s = refl
   rank_closed (x ∷ xs) ys s =
-      no_gain (cl x (xs ++ ys)) _ (wider x ys (xs ++ ys) (λ z m. Memᴰ.append_right xs m) (s x (Memᴰ.head refl)))
-      ∙ rank_closed xs ys (λ z m. s z (Memᴰ.tail m))
+      let inside = wider x ys (xs ++ ys) (λ z m. Memᴰ.append_right xs m) (s x (Memᴰ.head refl)) in
+      omega (arith, rank_closed xs ys (λ z m. s z (Memᴰ.tail m)), less_gain true (cl x (xs ++ ys)) (λ _. inside))
 
   -- lists with the same closure have the same rank
   pub rank_same : (xs ys : List E) → Spanned cl xs ys → Spanned cl ys xs → rank cl xs ≡ rank cl ys
@@ -150,7 +115,7 @@ module _ {E : Type 0} {cl : E → List E → Bool} (L : Closure E cl) where
   -- an independent list counts in full
   independent_rank : (us : List E) → Independent cl us → length us ≡ rank cl us
   independent_rank [] i = refl
-  independent_rank (u ∷ us) i = gained (cl u us) (length us) (rank cl us) i.0 (independent_rank us i.1)
+  independent_rank (u ∷ us) i = omega (arith, independent_rank us i.1, less_gain (cl u us) false i.0, less_gain false (cl u us) (λ z. absurd z))
 
   pub rank_length : (us ws : List E) → Independent cl us → Spanned cl us ws → Spanned cl ws us → length us ≡ rank cl ws
   rank_length us ws i s t = independent_rank us i ∙ rank_same us ws s t
@@ -166,19 +131,13 @@ module _ {E : Type 0} {cl : E → List E → Bool} (L : Closure E cl) where
         us,
         i,
         (λ x m. Memᴰ.tail (a x m)),
-        (λ x m. elim (Memᴰ.cases_cons m) [
-          | inl h ↦ subst (λ y. T (cl y us)) (sym h) (L.transitive w ws us (subst T (sym e) tt) s)
-          | inr k ↦ s x k
-        ]),
+        first_or (λ x. T (cl x us)) w ws (L.transitive w ws us (subst T (sym e) tt) s) s,
       )
       go false e (us, i, a, s) = (
         w ∷ us,
         ((λ t. subst T e (wider w us ws a t)), i),
-        (λ x m. elim (Memᴰ.cases_cons m) [ inl h ↦ Memᴰ.head h | inr k ↦ Memᴰ.tail (a x k) ]),
-        (λ x m. elim (Memᴰ.cases_cons m) [
-          | inl h ↦ L.member x (w ∷ us) (Memᴰ.head h)
-          | inr k ↦ wider x us (w ∷ us) (λ y j. Memᴰ.tail j) (s x k)
-        ]),
+        first_or (λ x. Memᴰ x (w ∷ ws)) w us (Memᴰ.head refl) (λ x m. Memᴰ.tail (a x m)),
+        first_or (λ x. T (cl x (w ∷ us))) w ws (L.member w (w ∷ us) (Memᴰ.head refl)) (λ x m. more x w us (s x m)),
       )
 
   pub rank_laws : RankLaws E cl

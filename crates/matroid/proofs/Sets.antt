@@ -2,8 +2,7 @@
 use mathlib.Core.Path.{◌≡◌, sym, subst}
 use mathlib.Core.Bool.{Bool}
 use mathlib.Core.List.Memᴰ
-use mathlib.Core.List.{List, [], ◌++◌}
-use mathlib.Core.Logic.{inl, inr}
+use mathlib.Core.List.{List, [], ◌++◌, Memᴰ}
 use Prim.Native.Nat.{ℕ, ◌+◌, ◌≤◌}
 use native.Mathlib.Omega.{arith}
 use lib.Dec.{T}
@@ -11,6 +10,7 @@ use lib.Bits.{bit_and, bit_or}
 use Rattle.matroid.specs.Closure.{Among, Closure, rank}
 use Rattle.matroid.specs.Members.{has, members}
 use Rattle.polymatroid.specs.Polymatroid.{Polymatroid}
+use Rattle.matroid.proofs.Lists.{in_both}
 use Rattle.matroid.proofs.Ranks as ranks
 use Rattle.matroid.proofs.Bits.{bit_and_left, bit_and_right, bit_zero, held, fewer, joint, joint_back}
 
@@ -30,13 +30,13 @@ module _ {E : Type 0} {cl : E → List E → Bool} (L : Closure E cl) (part : �
       let A : List E = members part k a in
       let B : List E = members part k b in
       let I : List E = members part k (bit_and a b) in
-      let in-a : Among I A = fewer part k (bit_and a b) a (λ i. bit_and_left a b i) in
+      let in_a : Among I A = fewer part k (bit_and a b) a (λ i. bit_and_left a b i) in
       let in_b : Among I B = fewer part k (bit_and a b) b (λ i. bit_and_right a b i) in
       let whole : rank cl (members part k (bit_or a b)) ≡ rank cl (A ++ B) =
       ranks.rank_order L (members part k (bit_or a b)) (A ++ B) (joint part k a b) (joint_back part k a b) in
       let twice : rank cl (A ++ I) ≡ rank cl A =
       ranks.rank_order L (A ++ I) A
-      (λ x m. elim (Memᴰ.append_cases A m) [ inl j ↦ j | inr j ↦ in-a x j ]) (λ x m. Memᴰ.append_left I m) in
+      (in_both (λ x. Memᴰ x A) A I (λ x m. m) in_a) (λ x m. Memᴰ.append_left I m) in
       omega (arith, ranks.rank_less L A I B in_b, whole, twice)
 
 pub rank_polymatroid : {E : Type 0} {cl : E → List E → Bool} (L : Closure E cl) (part : ℕ → List E) (n : ℕ) → Polymatroid n (λ s. rank cl (members part (n + 1) s))

@@ -1,7 +1,6 @@
 -- Two linear forms that agree at every unit function but that of the empty set agree at every function that is 0 there.
 -- Assumes nothing.
 use Rattle.std.proofs.Common.{◌≡◌, ℕ, zero, suc, ◌<◌, ◌≤◌, cond, ltb, ℤ, pos, ◌+ℤ◌, ◌*ℤ◌, sym, refl, ap, ◌∙◌, inl, inr, arith}
-use lib.IntN.{zero-*ℤ}
 use Rattle.std.proofs.lemmas.Int.{ints}
 use Rattle.std.proofs.lemmas.Bool.{lt-ltb, le-ltb, eq-eqb, ne_eqb, cases_order}
 use Rattle.polymatroid.specs.Certificate.{unit}
@@ -15,17 +14,11 @@ pub record Form (m : ℕ) (f : (ℕ → ℤ) → ℤ) : Type 0 where
 abbrev cut : (ℕ → ℤ) → ℕ → ℕ → ℤ
 cut x k s = cond (ltb s k) (x s) (pos 0)
 
-add_none : (x c : ℤ) → x ≡ x +ℤ c *ℤ pos 0
-add_none x c = omega (arith, ints)
-
-add_once : (c : ℤ) → c ≡ pos 0 +ℤ c *ℤ pos 1
-add_once c = omega (arith, ints)
-
 cut_more : (x : ℕ → ℤ) (k s : ℕ) → cut x (suc k) s ≡ cut x k s +ℤ x k *ℤ unit k s
 cut_more x k s = elim (cases_order s k) [
-  | inl e ↦ rw e (rw (lt-ltb k (suc k) (omega arith), le-ltb k k (omega arith), eq-eqb k k refl) (add_once (x k)))
-  | inr (inl l) ↦ rw (lt-ltb s (suc k) (omega arith), lt-ltb s k l, ne_eqb k s (omega arith)) (add_none (x s) (x k))
-  | inr (inr l) ↦ rw (le-ltb s (suc k) (omega arith), le-ltb s k (omega arith), ne_eqb k s (omega arith)) (add_none (pos 0) (x k))
+  | inl e ↦ rw e (rw (lt-ltb k (suc k) (omega arith), le-ltb k k (omega arith), eq-eqb k k refl) (omega (arith, ints)))
+  | inr (inl l) ↦ rw (lt-ltb s (suc k) (omega arith), lt-ltb s k l, ne_eqb k s (omega arith)) (omega (arith, ints))
+  | inr (inr l) ↦ rw (le-ltb s (suc k) (omega arith), le-ltb s k (omega arith), ne_eqb k s (omega arith)) (omega (arith, ints))
 ]
 
 module _ (m : ℕ) (f g : (ℕ → ℤ) → ℤ) (ff : Form m f) (gg : Form m g) (x : ℕ → ℤ) (none : x 0 ≡ pos 0)
@@ -33,16 +26,13 @@ module _ (m : ℕ) (f g : (ℕ → ℤ) → ℤ) (ff : Form m f) (gg : Form m g)
   at_zero : (f : (ℕ → ℤ) → ℤ) → Form m f → f (cut x 0) ≡ pos 0
   at_zero f ff =
       ff.local (cut x 0) (λ s. pos 0) (λ s l. rw (le-ltb s 0 (omega arith))) ∙
-      twice (f (λ s. pos 0)) (ff.linear (λ s. pos 0) (λ s. pos 0) (pos 1))
-    where
-      twice : (z : ℤ) → z ≡ z +ℤ pos 1 *ℤ z → z ≡ pos 0
-      twice z e = omega (arith, ints)
+      omega (arith, ints, ff.linear (λ s. pos 0) (λ s. pos 0) (pos 1))
 
   step : (f : (ℕ → ℤ) → ℤ) → Form m f → (k : ℕ) → f (cut x (suc k)) ≡ f (cut x k) +ℤ x k *ℤ f (unit k)
   step f ff k = ff.local (cut x (suc k)) (λ s. cut x k s +ℤ x k *ℤ unit k s) (λ s l. cut_more x k s) ∙ ff.linear (cut x k) (unit k) (x k)
 
   term : (k : ℕ) → k < m → x k *ℤ f (unit k) ≡ x k *ℤ g (unit k)
-  term zero l = ap (λ z. z *ℤ f (unit 0)) none ∙ zero-*ℤ (f (unit 0)) ∙ sym (ap (λ z. z *ℤ g (unit 0)) none ∙ zero-*ℤ (g (unit 0)))
+  term zero l = rw none (omega (arith, ints))
   term (suc k) l = ap (λ z. x (suc k) *ℤ z) (same (suc k) (omega arith) l)
 
   upto : (k : ℕ) → k ≤ m → f (cut x k) ≡ g (cut x k)

@@ -4,3 +4,4 @@ pub mod Forms
 pub mod Lines
 pub mod Soundness
 pub mod Claims
+pub mod FromFn

@@ -23,19 +23,13 @@ secret_in n = pow_below 0 (n + 1) (omega arith)
 -- ---- the form of one inequality
 -- the difference of two linear forms, and their sum
 sub_linear : (p q r s c : ℤ) → (p +ℤ c *ℤ r) -ℤ (q +ℤ c *ℤ s) ≡ (p -ℤ q) +ℤ c *ℤ (r -ℤ s)
-sub_linear p q r s c = rw (mul_sub c r s) (linear p q (c *ℤ r) (c *ℤ s))
-  where
-    linear : (p q r s : ℤ) → (p +ℤ r) -ℤ (q +ℤ s) ≡ (p -ℤ q) +ℤ (r -ℤ s)
-    linear p q r s = omega (arith, ints)
+sub_linear p q r s c = rw (mul_sub c r s) (omega (arith, ints))
 
 add_linear : (p q r s c : ℤ) → (p +ℤ c *ℤ r) +ℤ (q +ℤ c *ℤ s) ≡ (p +ℤ q) +ℤ c *ℤ (r +ℤ s)
-add_linear p q r s c = rw (mul_add c r s) (linear p q (c *ℤ r) (c *ℤ s))
-  where
-    linear : (p q r s : ℤ) → (p +ℤ r) +ℤ (q +ℤ s) ≡ (p +ℤ q) +ℤ (r +ℤ s)
-    linear p q r s = omega (arith, ints)
+add_linear p q r s c = rw (mul_add c r s) (omega (arith, ints))
 
 scale_linear : (m p r c : ℤ) → m *ℤ (p +ℤ c *ℤ r) ≡ m *ℤ p +ℤ c *ℤ (m *ℤ r)
-scale_linear m p r c = mul_add m p (c *ℤ r) ∙ ap (λ z. m *ℤ p +ℤ z) (mul_left_comm m c r)
+scale_linear m p r c = rw (mul_add m p (c *ℤ r), mul_left_comm m c r)
 
 pub at_form : (m a : ℕ) → a < m → Form m (λ x. x a)
 at_form m a l = record { linear = λ x y c. refl; local = λ x y e. e a l }
@@ -60,10 +54,7 @@ scaled_form m k f ff = record {
 }
 
 pub no_form : (m : ℕ) → Form m (λ x. pos 0)
-no_form m = record { linear = λ x y c. nothing c; local = λ x y e. refl }
-  where
-    nothing : (c : ℤ) → pos 0 ≡ pos 0 +ℤ c *ℤ pos 0
-    nothing c = omega (arith, ints)
+no_form m = record { linear = λ x y c. omega (arith, ints); local = λ x y e. refl }
 
 module _ (n : ℕ) (qualified : ℕ → Bool) where
   inequality_form : (k : ℤ) (i : Inequality) → LawfulAt n qualified k i → Form (2 ^ (n + 1)) (form i)
@@ -111,9 +102,6 @@ claim_form n weight count =
 nothing : (k z : ℤ) → z ≡ pos 0 → pos 0 ≤ℤ (k *ℤ z)
 nothing k z e = rw (e, *ℤ-zero k) (≤ℤ_refl (pos 0))
 
-added : (y z : ℤ) → pos 0 ≤ℤ y → pos 0 ≤ℤ z → pos 0 ≤ℤ (y +ℤ z)
-added y z p q = omega (arith, ints)
-
 pub lines_hold : LinesHold
 lines_hold n qualified h = record {
   monotone = λ p m a b l. omega (arith, ints, p.monotone a b l.0 l.1 l.2);
@@ -132,8 +120,7 @@ module _ (n : ℕ) (qualified : ℕ → Bool) (h : ℕ → ℕ) (p : Polymatroid
   pub combination_value : (ls : List Line) → AllByRecursion (Lawful n qualified) ls → pos 0 ≤ℤ combination ls (λ s. pos (h s))
   combination_value [] all = ≤ℤ_refl (pos 0)
   combination_value (l ∷ ls) all =
-      added (l.multiplier *ℤ form l.inequality (λ s. pos (h s))) (combination ls (λ s. pos (h s)))
-      (line_value l.multiplier l.inequality all.0) (combination_value ls all.1)
+      omega (arith, ints, line_value l.multiplier l.inequality all.0, combination_value ls all.1)
 
 pub claim_value : (n : ℕ) (weight : ℕ → ℕ) (count : ℕ) (h : ℕ → ℕ) → claim n weight count (λ s. pos (h s)) ≡ pos (sum_to n (λ i. weight i * h (alone i))) -ℤ pos (count * h secret)
 claim_value n weight count h = ap (λ z. z -ℤ pos (count * h secret)) (natural n)

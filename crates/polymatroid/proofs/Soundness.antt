@@ -1,32 +1,25 @@
 -- Why a right certificate binds. Assumes nothing.
-use Rattle.std.proofs.Common.{◌≡◌, ℕ, zero, suc, ◌+◌, ◌*◌, ◌^◌, ◌≤◌, pos, ◌-ℤ◌, ◌≤ℤ◌, ap, ◌∙◌, subst, inl, inr, add-mul, mul-le-mul_left, arith}
+use Rattle.std.proofs.Common.{◌≡◌, ℕ, zero, suc, ◌+◌, ◌*◌, ◌^◌, ◌≤◌, pos, ◌≤ℤ◌, ap, ◌∙◌, subst, inl, inr, add-mul, mul-le-mul_left, arith}
 use Rattle.std.proofs.lemmas.Int.{ints}
 use Rattle.std.proofs.lemmas.Bool.{cases_lt}
-use Rattle.polymatroid.specs.Sets.{secret, alone}
+use Rattle.polymatroid.specs.Sets.{alone}
 use Rattle.polymatroid.specs.Certificate.{sum_to, combination, claim, Weighted, Sound}
 use Rattle.polymatroid.proofs.Forms.{agree}
 use Rattle.polymatroid.proofs.Lines.{combination_form, combination_value, claim_form, claim_value}
-
-natural : (a b : ℕ) → pos 0 ≤ℤ (pos a -ℤ pos b) → b ≤ a
-natural a b p = omega (arith, ints)
 
 pub weighted : Weighted
 weighted n qualified weight count lines lawful matches h p r =
     let same : combination lines (λ s. pos (h s)) ≡ claim n weight count (λ s. pos (h s)) =
     agree (2 ^ (n + 1)) (combination lines) (claim n weight count)
     (combination_form n qualified lines lawful) (claim_form n weight count) (λ s. pos (h s)) (ap pos p.empty) matches in
-    natural (sum_to n (λ i. weight i * h (alone i))) (count * h secret)
-    (subst (λ z. pos 0 ≤ℤ z) (same ∙ claim_value n weight count h) (combination_value n qualified h p r lines lawful))
+    omega (arith, ints, subst (λ z. pos 0 ≤ℤ z) (same ∙ claim_value n weight count h) (combination_value n qualified h p r lines lawful))
 
 -- the largest of f 1 .. f n
 abbrev Largest : ℕ → (ℕ → ℕ) → ℕ → Type 0
 Largest n f i = (1 ≤ i) × (i ≤ n) × ((j : ℕ) → 1 ≤ j → j ≤ n → f j ≤ f i)
 
 largest : (f : ℕ → ℕ) (n : ℕ) → (i : ℕ) × Largest (suc n) f i
-largest f zero = (1, (omega arith, omega arith, λ j p q. ap_le j p q))
-  where
-    ap_le : (j : ℕ) → 1 ≤ j → j ≤ 1 → f j ≤ f 1
-    ap_le j p q = let e : j ≡ 1 = omega arith in rw e (omega arith)
+largest f zero = (1, (omega arith, omega arith, λ j p q. let e : j ≡ 1 = omega arith in rw e (omega arith)))
 largest f (suc n) = grown (largest f n)
   where
     last : (i j : ℕ) → j ≤ suc (suc n) → f (suc (suc n)) ≤ f i → (j ≤ suc n → f j ≤ f i) → f j ≤ f i

@@ -1,3 +1,2 @@
 pub mod Trying
 pub mod Stored
-pub mod FromFn

@@ -1,14 +1,13 @@
 -- Numbers as they are stored and read back, and fields behind a part that is dropped. Assumes nothing.
-use Rattle.std.proofs.Common.{◌≡◌, ℕ, zero, suc, ◌+◌, ◌*◌, ◌/◌, ◌%◌, ◌^◌, ◌<◌, List, [], ◌∷◌, drop, ap, ◌∙◌, ap₂, arith}
-use Rattle.std.proofs.lemmas.List.{get_or-drop}
-use Rattle.std.proofs.lemmas.Nat.{div-mul-add, mod-mul-add, div-add-mod'}
+use Rattle.std.proofs.Common.{◌≡◌, ℕ, zero, suc, ◌+◌, ◌*◌, ◌/◌, ◌%◌, ◌^◌, ◌<◌, ◌≤◌, List, [], ◌∷◌, length, take, drop, map, ap, ◌∙◌, ap₂, arith}
+use Rattle.std.specs.List.{range_with_len}
+use Rattle.std.proofs.lemmas.List.{get_or-drop, get_or-take, length-take-le}
+use Rattle.std.proofs.lemmas.List.FromFn.{fill_by_all}
+use Rattle.std.proofs.lemmas.Nat.{div-mul-add, mod-mul-add}
 use Rattle.record.specs.Reading.{byte, two, four, two_bytes, four_bytes, Bytes}
 
 pub two_stored : (x y : ℕ) → x < 256 → y < 256 → two_bytes (x * 256 + y) ≡ x ∷ y ∷ []
 two_stored x y p q = ap₂ (λ u v. u ∷ v ∷ []) (div-mul-add x 256 y q) (mod-mul-add x 256 y q)
-
-pub two_back : (v : ℕ) → v / 256 * 256 + v % 256 ≡ v
-two_back v = div-add-mod' v 256
 
 pub four_stored : (a b c d : ℕ) → a < 256 → b < 256 → c < 256 → d < 256 → four_bytes ((a * 256 + b) * 65536 + (c * 256 + d)) ≡ a ∷ b ∷ c ∷ d ∷ []
 four_stored a b c d p q r s =
@@ -17,7 +16,7 @@ four_stored a b c d p q r s =
     let e₁ : v / 65536 % 256 ≡ b = omega arith in
     let e₂ : v / 256 % 256 ≡ c = omega arith in
     let e₃ : v % 256 ≡ d = omega arith in
-    ap₂ (λ w x. w ∷ x ∷ v / 256 % 256 ∷ v % 256 ∷ []) e₀ e₁ ∙ ap₂ (λ w x. a ∷ b ∷ w ∷ x ∷ []) e₂ e₃
+    cc
 
 pub four_back : (v : ℕ) → (v / 16777216 * 256 + v / 65536 % 256) * 65536 + (v / 256 % 256 * 256 + v % 256) ≡ v
 four_back v = omega arith
@@ -33,6 +32,10 @@ two_small bytes i bs = omega (arith, byte_small bytes i bs, byte_small bytes (i 
 
 pub four_small : (bytes : List ℕ) (i : ℕ) → Bytes bytes → four bytes i < 2 ^ 32
 four_small bytes i bs = omega (arith, two_small bytes i bs, two_small bytes (i + 2) bs)
+
+-- the first k bytes, one by one
+pub first_bytes : (k : ℕ) (bytes : List ℕ) → k ≤ length bytes → take k bytes ≡ map (byte bytes) (range_with_len 0 k)
+first_bytes k bytes l = fill_by_all (byte bytes) (take k bytes) k 0 (length-take-le k bytes l) (λ j m. get_or-take k bytes j 0 m)
 
 -- a field behind the first k bytes
 pub byte_drop : (k : ℕ) (bytes : List ℕ) (i j : ℕ) → k + i ≡ j → byte (drop k bytes) i ≡ byte bytes j

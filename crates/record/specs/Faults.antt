@@ -1,5 +1,5 @@
 -- The numbers of the refusals, and how a fault is handed on. Assumes nothing.
-use Rattle.std.specs.Prelude.{ℕ, Some, None}
+use Rattle.std.specs.Prelude.{ℕ, List, ◌∷◌, ◌++◌, Some, None, decimal, unwrap_or}
 use Rattle.record.specs.declared.faults.Reason.{Reason}
 use Rattle.record.specs.declared.faults.Reason.TheVariants.{CutShort, WrongMark, OutOfRange, SetNotAllowed, NotAntichain, Unlawful, SumDiffers, LeftOver, ParticipantsDiffer}
 use Rattle.record.specs.declared.faults.LineFault.{LineFault}
@@ -36,3 +36,7 @@ unnamed f = record { reason = f.reason; entry = None; line = f.line }
 -- a refusal outside records, in a call that names no entry
 abbrev pub refused : Reason → Refusal
 refused reason = record { reason = reason; entry = None; line = None }
+
+-- a refusal as it is printed: number, entry and line, 0 for none, with spaces (32) between
+abbrev pub printed : Refusal → List ℕ
+printed r = decimal (number_of r.reason) ++ 32 ∷ (decimal (unwrap_or r.entry 0) ++ 32 ∷ decimal (unwrap_or r.line 0))

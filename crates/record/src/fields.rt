@@ -51,7 +51,7 @@ pub fn four_at(bytes: &[u8], at: usize) -> u32
     u32::from_be_bytes(bytes_at(bytes, at))
 }
 
-// Whether the first two bytes are the mark.
+// Whether the first two bytes are the mark. Byte by byte, as the definition: `==` of the arrays is no shorter to prove or to read.
 pub fn is_marked(bytes: &[u8], mark: [u8; 2]) -> bool
     ensures { result ≡ marked bytes.now mark }
 {

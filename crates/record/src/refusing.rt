@@ -1,7 +1,7 @@
 // The numbers of the refusals, how a fault is handed on (from a line to its record, from a record to the call), and how
 // a refusal is printed.
-ghost use Rattle.std.specs.Prelude.{◌≡◌};
-ghost use Rattle.record.specs.Faults.{number_of, of_line, outside, unnamed, refused};
+ghost use Rattle.std.specs.Prelude.{◌≡◌, Some};
+ghost use Rattle.record.specs.Faults.{number_of, of_line, outside, unnamed, refused, printed};
 
 use crate::faults::{LineFault, Reason, RecordFault, Refusal};
 use std::fmt;
@@ -55,6 +55,8 @@ impl From<Reason> for Refusal {
 
 // Number, entry and line, with 0 for none.
 impl fmt::Display for Refusal {
+    ghost output = { λ r. Some (printed r) };
+
     fn fmt<W: fmt::Write>(&self, f: &mut fmt::Formatter<W>) -> fmt::Result {
         let number = self.reason.number();
         let entry = self.entry.unwrap_or(0);

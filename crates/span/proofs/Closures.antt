@@ -1,15 +1,14 @@
 -- Spans are closures, and lists are independent as vectors exactly if they are so for that closure. Assumes nothing.
-use Rattle.std.proofs.Common.{◌≡◌, ℕ, zero, suc, ◌<◌, List, [], ◌∷◌, length, sym, ap, ◌∙◌, inl, inr, arith}
+use Rattle.std.proofs.Common.{◌≡◌, ℕ, zero, suc, ◌<◌, List, [], ◌∷◌, length, sym, refl, ap, ap₂, ◌∙◌, inl, inr, arith}
 use mathlib.Core.List.{Memᴰ}
 use Rattle.field.specs.Laws.{Ops, Lawful, code}
-use Rattle.field.proofs.Codes.{code_at}
 use Rattle.field.proofs.Free as free
 use Rattle.matroid.specs.Closure as matroid
 use Rattle.matroid.specs.Closure.{Closure, Spanned}
 use Rattle.span.specs.Span.{Vector, combination, InSpan, SameSpan, Independent}
-use Rattle.span.specs.Dimension.{in_span}
-use Rattle.span.proofs.Combinations.{with, comb_code, comb_none}
-use Rattle.span.proofs.Spans.{in_member, in_through, in_exchange, in_like, in_scale, real_or_none}
+use Rattle.span.specs.Dimension.{minus, in_span}
+use Rattle.span.proofs.Combinations.{with, comb_none}
+use Rattle.span.proofs.Spans.{in_member, in_through, in_exchange, in_like, in_others, in_turned, real_or_none}
 use Rattle.span.proofs.Tested.{in_of, of_in}
 
 module _ (o : Ops) (L : Lawful o) (d : ℕ) where
@@ -21,22 +20,16 @@ module _ (o : Ops) (L : Lawful o) (d : ℕ) where
         of_in o L d (a ∷ ws) b (in_exchange o L d ws a b (λ i. n (of_in o L d ws a i)) (in_of o L d (b ∷ ws) a t));
   }
 
-  pub same_spanned : (us ws : List Vector) → SameSpan o d us ws → Spanned (in_span o d) us ws
-  same_spanned us ws s u m = of_in o L d ws u ((s u).0 (in_member o L d us u m))
-
-  pub same_back : (us ws : List Vector) → SameSpan o d us ws → SameSpan o d ws us
-  same_back us ws s v = ((s v).1, (s v).0)
+  pub same_spanned : (us ws : List Vector) → SameSpan o d us ws → Spanned (in_span o d) us ws × Spanned (in_span o d) ws us
+  same_spanned us ws s =
+      ((λ u m. of_in o L d ws u ((s u).0 (in_member o L d us u m))), (λ w m. of_in o L d us w ((s w).1 (in_member o L d ws w m))))
 
   pub same_of : (us ws : List Vector) → ((u : Vector) → Memᴰ u us → InSpan o d u ws) → ((w : Vector) → Memᴰ w ws → InSpan o d w us) → SameSpan o d us ws
   same_of us ws f g v = ((λ i. in_through o L d us ws v i f), (λ i. in_through o L d ws us v i g))
 
-  -- 1 is not 0, and neither is -1
-  one_real : code o.order 1 ≡ 0 → ⊥
-  one_real e = let z : ◌≡◌ {A = ℕ} 1 0 = sym (code_at o.order 1 (free.order L)) ∙ e in omega arith
-
+  -- -1 does not count as 0
   minus_one_real : code o.order (o.neg 1) ≡ 0 → ⊥
-  minus_one_real e =
-      one_real (sym (free.add_zero L 1) ∙ ap (o.add 1) (sym (sym (free.code_neg L 1) ∙ e)) ∙ free.add_neg L 1)
+  minus_one_real e = free.one_real L (sym (free.add_zero L 1) ∙ ap (o.add 1) (sym e ∙ free.code_neg L 1) ∙ free.add_neg L 1)
 
   -- a first vector in the span of the others gives a combination to 0 whose first coefficient is -1
   pub independent_chain : (ws : List Vector) → Independent o d ws → matroid.Independent (in_span o d) ws
@@ -50,8 +43,7 @@ module _ (o : Ops) (L : Lawful o) (d : ℕ) where
     where
       cancels : (x r : ℕ) → code o.order x ≡ r → o.add (o.mul (o.neg 1) x) r ≡ 0
       cancels x r e =
-          ap (λ t. o.add t r) (sym (free.neg_mul L x)) ∙ ap (o.add (o.neg x)) (sym e) ∙ free.add_code_r L (o.neg x) x
-          ∙ free.add_comm L (o.neg x) x ∙ free.add_neg L x
+          ap₂ o.add (free.neg_mul_l L 1 x ∙ ap o.neg (free.one_mul L x ∙ e)) refl ∙ free.neg_add L r
 
   pub chain_independent : (ws : List Vector) → matroid.Independent (in_span o d) ws → Independent o d ws
   chain_independent [] i cs z n h = absurd (omega arith)
@@ -61,27 +53,12 @@ module _ (o : Ops) (L : Lawful o) (d : ℕ) where
     | inr r ↦ absurd (i.0 (of_in o L d ws w (solved r)))
   ]
     where
-      rest : ℕ → ℕ
-      rest j = cs (suc j)
-
-      -- w is -1/c times the combination of the others
+      -- 0 less c times w is a combination of the others
       solved : (code o.order (cs 0) ≡ 0 → ⊥) → InSpan o d w ws
       solved r =
-          in_like o L d ws (λ k. o.mul (o.neg (o.inv (cs 0))) (combination o rest ws k)) w
-          (λ k l. ap (code o.order) (turn (w k) (combination o rest ws k) (z k l)) ∙ free.again L (w k))
-          (in_scale o L d ws (o.neg (o.inv (cs 0))) (combination o rest ws) (rest, λ k l. comb_code o L rest ws k))
-        where
-          -- from c x + y = 0: y = 0 - c x, so -1/c y = x
-          turn : (x y : ℕ) → o.add (o.mul (cs 0) x) y ≡ 0 → o.mul (o.neg (o.inv (cs 0))) y ≡ code o.order x
-          turn x y e =
-              sym (free.mul_code_r L _ y) ∙ ap (o.mul (o.neg (o.inv (cs 0)))) (opposite (o.mul (cs 0) x) y e)
-              ∙ free.turned L (cs 0) (free.real L (cs 0) r).0 (free.real L (cs 0) r).1 0 x
-              ∙ ap (λ t. o.add x (o.neg t)) (free.mul_zero L (o.inv (cs 0)) ∙ sym (free.mul_zero L 0)) ∙ free.none L x 0
-            where
-              opposite : (a b : ℕ) → o.add a b ≡ 0 → code o.order b ≡ o.add 0 (o.neg a)
-              opposite a b h =
-                  sym (free.add_zero L b) ∙ ap (o.add b) (sym (free.add_neg L a)) ∙ sym (free.add_assoc L b a (o.neg a))
-                  ∙ ap (λ t. o.add t (o.neg a)) (free.add_comm L b a ∙ h)
+          in_like o L d ws (minus o w (o.inv (cs 0)) (λ k. 0)) w
+          (λ k l. ap (code o.order) (free.less_none L (w k) _ (free.mul_zero L (o.inv (cs 0)))) ∙ free.again L (w k))
+          (in_turned o L d ws (λ k. 0) w (cs 0) r (in_others o L d ws (λ k. 0) w (cs, λ k l. free.code_zero L ∙ sym (z k l))))
 
       at : (n : ℕ) → n < suc (length ws) → code o.order (cs 0) ≡ 0
           → ((j : ℕ) → j < length ws → code o.order (cs (suc j)) ≡ 0) → code o.order (cs n) ≡ 0

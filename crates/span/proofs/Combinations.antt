@@ -15,33 +15,23 @@ module _ (o : Ops) (L : Lawful o) where
   comb_code cs [] k = free.code_zero L
   comb_code cs (w ∷ ws) k = free.code_add L _ _
 
-  zero_mul : (x : ℕ) → o.mul 0 x ≡ 0
-  zero_mul x = free.mul_comm L 0 x ∙ free.mul_zero L x
-
-  pub zero_add : (x : ℕ) → o.add 0 x ≡ code o.order x
-  zero_add x = free.add_comm L 0 x ∙ free.add_zero L x
-
-  one_mul : (x : ℕ) → o.mul 1 x ≡ code o.order x
-  one_mul x = free.mul_comm L 1 x ∙ free.mul_one L x
-
   pub comb_zero : (ws : List Vector) (k : ℕ) → combination o (λ i. 0) ws k ≡ 0
   comb_zero [] k = refl
-  comb_zero (w ∷ ws) k = ap₂ o.add (zero_mul (w k)) (comb_zero ws k) ∙ zero_add 0 ∙ free.code_zero L
+  comb_zero (w ∷ ws) k = ap₂ o.add (free.zero_mul L (w k)) (comb_zero ws k) ∙ free.zero_add L 0 ∙ free.code_zero L
 
   -- a first vector with a coefficient that counts as 0
   pub comb_none : (c : ℕ) (cs : ℕ → ℕ) (w : Vector) (ws : List Vector) (k : ℕ) → code o.order c ≡ 0
       → combination o (with c cs) (w ∷ ws) k ≡ combination o cs ws k
   comb_none c cs w ws k z =
-      ap (λ x. o.add x (combination o cs ws k)) (sym (free.mul_code_l L c (w k)) ∙ ap (λ x. o.mul x (w k)) z ∙ zero_mul (w k))
-      ∙ zero_add _ ∙ comb_code cs ws k
+      ap (λ x. o.add x (combination o cs ws k)) (free.none_mul L c (w k) z) ∙ free.zero_add L _ ∙ comb_code cs ws k
 
   -- the first vector by itself
   pub comb_first : (w : Vector) (ws : List Vector) (k : ℕ) → combination o (with 1 (λ i. 0)) (w ∷ ws) k ≡ code o.order (w k)
-  comb_first w ws k = ap₂ o.add (one_mul (w k)) (comb_zero ws k) ∙ free.add_zero L _ ∙ free.again L (w k)
+  comb_first w ws k = ap₂ o.add (free.one_mul L (w k)) (comb_zero ws k) ∙ free.add_zero L _ ∙ free.again L (w k)
 
   pub comb_add : (cs es : ℕ → ℕ) (ws : List Vector) (k : ℕ)
       → o.add (combination o cs ws k) (combination o es ws k) ≡ combination o (λ i. o.add (cs i) (es i)) ws k
-  comb_add cs es [] k = zero_add 0 ∙ free.code_zero L
+  comb_add cs es [] k = free.zero_add L 0 ∙ free.code_zero L
   comb_add cs es (w ∷ ws) k =
       shuffle (o.mul (cs 0) (w k)) (combination o (λ i. cs (suc i)) ws k) (o.mul (es 0) (w k)) (combination o (λ i. es (suc i)) ws k)
       ∙ ap₂ o.add (sym (free.add_mul L (cs 0) (es 0) (w k))) (comb_add (λ i. cs (suc i)) (λ i. es (suc i)) ws k)

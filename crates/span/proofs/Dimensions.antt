@@ -1,19 +1,18 @@
 -- The dimension: the length of every basis, decided by the span alone, a polymatroid. Assumes nothing.
-use Rattle.std.proofs.Common.{◌≡◌, ℕ, suc, ◌+◌, ◌<◌, Bool, true, false, cond, T, List, [], ◌∷◌, sym, refl, ap, ◌∙◌}
+use Rattle.std.proofs.Common.{◌≡◌, ℕ, suc, ◌+◌, ◌<◌, false, T, List, [], ◌∷◌, sym, refl, ap₂, ◌∙◌, arith}
 use mathlib.Core.List.Memᴰ
 use mathlib.Core.List.{Memᴰ}
 use Rattle.field.specs.Laws.{Ops, Lawful, code}
 use Rattle.field.proofs.Free as free
-use Rattle.matroid.specs.Closure.{rank}
 use Rattle.matroid.specs.Theorems.{RankLaws}
-use Rattle.matroid.proofs.Ranks.{rank_laws}
+use Rattle.matroid.proofs.Ranks.{less_gain, rank_laws}
 use Rattle.matroid.proofs.Sets.{rank_polymatroid}
 use Rattle.span.specs.Span.{Vector, combination}
 use Rattle.span.specs.Dimension.{in_span, dimension}
 use Rattle.span.specs.Theorems.{OneLength, LengthIsDimension, HasBasis, SpanDecides, OrderIsFree, SpanAddsNothing, DimensionsPolymatroid}
 use Rattle.span.proofs.Spans.{in_member, in_none}
 use Rattle.span.proofs.Tested.{in_of, of_in}
-use Rattle.span.proofs.Closures.{span_closure, same_spanned, same_back, same_of, independent_chain, chain_independent}
+use Rattle.span.proofs.Closures.{span_closure, same_spanned, same_of, independent_chain, chain_independent}
 
 module _ (o : Ops) (L : Lawful o) where
   laws : (d : ℕ) → RankLaws Vector (in_span o d)
@@ -21,8 +20,7 @@ module _ (o : Ops) (L : Lawful o) where
 
   pub length_is_dimension : LengthIsDimension o
   length_is_dimension d us ws i s =
-      (laws d).length_is us ws (independent_chain o L d us i) (same_spanned o L d us ws s)
-      (same_spanned o L d ws us (same_back o L d us ws s))
+      let b = same_spanned o L d us ws s in (laws d).length_is us ws (independent_chain o L d us i) b.0 b.1
 
   pub one_length : OneLength o
   one_length d us ws i j s =
@@ -38,7 +36,7 @@ module _ (o : Ops) (L : Lawful o) where
       )
 
   pub span_decides : SpanDecides o
-  span_decides d us ws s = (laws d).same us ws (same_spanned o L d us ws s) (same_spanned o L d ws us (same_back o L d us ws s))
+  span_decides d us ws s = let b = same_spanned o L d us ws s in (laws d).same us ws b.0 b.1
 
   pub order_is_free : OrderIsFree o
   order_is_free d us ws a b = (laws d).order us ws a b
@@ -58,15 +56,12 @@ module _ (o : Ops) (L : Lawful o) where
   none_at : (d : ℕ) (ws : List Vector) (cs : ℕ → ℕ) (k : ℕ) → ((w : Vector) → Memᴰ w ws → code o.order (w k) ≡ 0) → combination o cs ws k ≡ 0
   none_at d [] cs k z = refl
   none_at d (w ∷ ws) cs k z =
-      ap (λ x. o.add x (combination o (λ i. cs (suc i)) ws k))
-      (sym (free.mul_code_r L (cs 0) (w k)) ∙ ap (o.mul (cs 0)) (z w (Memᴰ.head refl)) ∙ free.mul_zero L (cs 0))
-      ∙ ap (o.add 0) (none_at d ws (λ i. cs (suc i)) k (λ x m. z x (Memᴰ.tail m))) ∙ free.add_zero L 0 ∙ free.code_zero L
+      ap₂ o.add (free.mul_none L (cs 0) (w k) (z w (Memᴰ.head refl))) (none_at d ws (λ i. cs (suc i)) k (λ x m. z x (Memᴰ.tail m)))
+      ∙ free.add_zero L 0 ∙ free.code_zero L
 
   -- a vector that is not 0 at a place at which all of ws are 0 adds one
   pub dimension_pivot : (d : ℕ) (ws : List Vector) (v : Vector) (k : ℕ) → k < d → ((w : Vector) → Memᴰ w ws → code o.order (w k) ≡ 0)
       → (code o.order (v k) ≡ 0 → ⊥) → dimension o d (v ∷ ws) ≡ dimension o d ws + 1
-  dimension_pivot d ws v k h z n = outside (in_span o d v ws) (λ t. let i = in_of o L d ws v t in n (i.1 k h ∙ none_at d ws i.0 k z))
-    where
-      outside : (b : Bool) → (T b → ⊥) → rank (in_span o d) ws + cond b 0 1 ≡ rank (in_span o d) ws + 1
-      outside true f = absurd (f tt)
-      outside false f = refl
+  dimension_pivot d ws v k h z n =
+      let outside = λ (t : T (in_span o d v ws)). let i = in_of o L d ws v t in n (i.1 k h ∙ none_at d ws i.0 k z) in
+      omega (arith, less_gain (in_span o d v ws) false outside, less_gain false (in_span o d v ws) (λ t. absurd t))

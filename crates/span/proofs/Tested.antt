@@ -1,7 +1,8 @@
 -- The test of spans decides them. Assumes nothing.
-use Rattle.std.proofs.Common.{◌≡◌, ℕ, Bool, true, false, T, eqb, List, [], ◌∷◌, sym, refl, ap}
+use Rattle.std.proofs.Common.{◌≡◌, ℕ, T, eqb, List, [], ◌∷◌, sym, refl, ap}
 use Rattle.std.proofs.lemmas.Bool.Decides.{Decides-eqb, Decides-like, Decides-below_and, Decides-below_or}
-use Rattle.std.proofs.lemmas.Bool.{false≢true}
+use Rattle.std.proofs.lemmas.Float.{T_from_true}
+use lib.Ieee.Bits.{is_true}
 use Rattle.polymatroid.specs.Tests.{all_below}
 use Rattle.field.specs.Laws.{Ops, Lawful, code}
 use Rattle.field.proofs.Free as free
@@ -30,16 +31,8 @@ module _ (o : Ops) (L : Lawful o) where
       (λ n. some_below n (λ c. in_span o d (minus o v c w) ws))
       (λ c. span_decided d (minus o v c w) ws) refl (λ _. refl) o.order)
 
-  T_true : (b : Bool) → T b → b ≡ true
-  T_true true t = refl
-  T_true false t = absurd t
-
-  true_T : (b : Bool) → b ≡ true → T b
-  true_T true e = tt
-  true_T false e = absurd (false≢true e)
-
   pub in_of : (d : ℕ) (ws : List Vector) (v : Vector) → T (in_span o d v ws) → InSpan o d v ws
-  in_of d ws v t = (span_decided d v ws).0 (T_true _ t)
+  in_of d ws v t = (span_decided d v ws).0 (is_true _ t)
 
   pub of_in : (d : ℕ) (ws : List Vector) (v : Vector) → InSpan o d v ws → T (in_span o d v ws)
-  of_in d ws v i = true_T _ ((span_decided d v ws).1 i)
+  of_in d ws v i = T_from_true _ ((span_decided d v ws).1 i)

@@ -1,6 +1,5 @@
 mod Steps
 mod Weights
-mod Below
 mod Claim
 mod Totals
 mod Typed

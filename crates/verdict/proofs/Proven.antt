@@ -11,7 +11,7 @@ use Rattle.record.specs.declared.faults.Reason.{Reason}
 use Rattle.record.specs.declared.faults.Refusal.{Refusal}
 use Rattle.record.specs.Faults.{outside, unnamed}
 use Rattle.record.specs.Reading.{and_then, refused_as, Bytes}
-use Rattle.record.proofs.Trying.{never, refused_as_ok}
+use Rattle.record.proofs.Trying.{refused_as_ok}
 use Rattle.access.specs.Table.{qualified_by, contains_one, table_of}
 use Rattle.access.specs.Format.{listed_in, LawfulSets, encode_sets}
 use Rattle.access.proofs.Minimal.{qualified_coalition}
@@ -77,7 +77,7 @@ module _ (structure certificate : List ℕ) (count total : ℕ) where
   listed (Ok l) e p =
       let x = read_exactly structure l.0 l.1 in
       (l.0, (l.1, record { lawful = x.lawful e; recorded = x.encoded e; judged = refused_as_ok unnamed (judge l.0 (qualified_by (table_of l.1)) certificate) (count, total) p }))
-  listed (Err e) q p = never (unnamed (outside e)) (count, total) p
+  listed (Err e) q p = cc
 
   behind : lower_bound_in structure certificate ≡ Ok (count, total) → (n : ℕ) × ((sets : List ℕ) × Behind n sets)
   unfolding answer

@@ -16,12 +16,9 @@ peak_set [] s z = omega arith
 peak_set (y ∷ t) zero z = omega arith
 peak_set (y ∷ t) (suc s) z = omega (arith, peak_set t s z)
 
-sum_abs : (y z : ℤ) → nat_abs (y +ℤ z) ≤ nat_abs y + nat_abs z
-sum_abs y z = omega (arith, ints)
-
 pub peak_added : (t : List ℤ) (s : ℕ) (v : ℤ) → peak (add_at t s v) ≤ peak t + nat_abs v
 peak_added t s v =
-    omega (arith, peak_set t s (get_or t s (pos 0) +ℤ v), peak_at t s, sum_abs (get_or t s (pos 0)) v)
+    omega (arith, ints, peak_set t s (get_or t s (pos 0) +ℤ v), peak_at t s)
 
 pub peak_zeros : (k : ℕ) → peak (replicate k (pos 0)) ≡ 0
 unfolding peak

@@ -1,5 +1,5 @@
 -- The table holds the coefficients of the lines' combination. Assumes nothing.
-use Rattle.std.proofs.Common.{◌≡◌, ℕ, zero, suc, ◌+◌, ◌*◌, ◌^◌, ◌<◌, ◌≤◌, Bool, true, false, ◌&&◌, ◌||◌, eqb, List, [], ◌∷◌, length, get_or, drop, replicate, ℤ, pos, ◌+ℤ◌, ◌-ℤ◌, ◌*ℤ◌, neg_ℤ, Ok, Err, Result, sym, refl, ap, ◌∙◌, subst, ap₂, inl, inr, arith, pow_mono}
+use Rattle.std.proofs.Common.{◌≡◌, ℕ, zero, suc, ◌+◌, ◌*◌, ◌^◌, ◌<◌, ◌≤◌, Bool, true, false, ◌&&◌, ◌||◌, eqb, List, [], ◌∷◌, length, get_or, drop, replicate, ℤ, pos, ◌+ℤ◌, ◌-ℤ◌, ◌*ℤ◌, neg_ℤ, Ok, Err, Result, sym, refl, ap, ◌∙◌, subst, ap₂, inl, inr, arith}
 use lib.Bits.{bit_and, bit_or, or_lt, and_le_l}
 use lib.IntN.{+ℤ_idl, +ℤ_assoc}
 use Rattle.std.specs.List.{AllByRecursion}
@@ -22,6 +22,7 @@ use Rattle.certificate.specs.declared.header.Header.{Header}
 use Rattle.certificate.specs.Lines.{numbered_line, lines_of}
 use Rattle.certificate.specs.Format.{Certificate, total_of, header_in, header_of, certificate}
 use Rattle.certificate.specs.Judge.{equal, claimed, adds_up, judge}
+use Rattle.access.proofs.Members.{ground_byte}
 use Rattle.certificate.proofs.Lawful.{lines_lawful}
 use Rattle.verdict.specs.Sums.{add_at, add_form, add_line, sums_of, settled}
 
@@ -59,23 +60,20 @@ four_terms : (z m u x y w : ℤ) → z +ℤ m *ℤ u +ℤ m *ℤ x -ℤ m *ℤ y
 four_terms z m u x y w = rw (mul_sub m (u +ℤ x -ℤ y) w, mul_sub m (u +ℤ x) y, mul_add m u x) (omega (arith, ints))
 
 module _ (n : ℕ) (few : n ≤ 7) (qualified : ℕ → Bool) where
-  in_table : (a : ℕ) → InGround n a → a < 256
-  in_table a l = let p : 2 ^ (n + 1) ≤ 2 ^ 8 = pow_mono {j = 8} (omega arith) in omega arith
-
   form_added : {s : ℕ} {t : List ℤ} {z : ℤ} (m : ℤ) (i : Inequality) → LawfulAt n qualified m i → Holds s t z →
       Holds s (add_form t m i) (z +ℤ m *ℤ form i (unit s))
   form_added {s} {t} {z} m (Monotonicity a b) k start =
-      subst (Holds s _) (two_terms z m (unit s b) (unit s a)) (minus a m (in_table a k.0) (plus b m (in_table b k.1) start))
+      subst (Holds s _) (two_terms z m (unit s b) (unit s a)) (minus a m (ground_byte n a few k.0) (plus b m (ground_byte n b few k.1) start))
   form_added {s} {t} {z} m (Submodularity a b) k start =
-      let la : a < 256 = in_table a k.0 in
-      let lb : b < 256 = in_table b k.1 in
+      let la : a < 256 = ground_byte n a few k.0 in
+      let lb : b < 256 = ground_byte n b few k.1 in
       subst (Holds s _) (four_terms z m (unit s a) (unit s b) (unit s (bit_or a b)) (unit s (bit_and a b)))
       (minus (bit_and a b) m (omega (arith, and_le_l a b)) (minus (bit_or a b) m (or_lt 8 a b la lb) (plus b m lb (plus a m la start))))
   form_added {s} {t} {z} m (Correctness a) k start =
-      let la : a < 256 = in_table a k.0.0 in
+      let la : a < 256 = ground_byte n a few k.0.0 in
       subst (Holds s _) (two_terms z m (unit s (bit_or a secret)) (unit s a)) (minus a m la (plus (bit_or a secret) m (or_lt 8 a secret la (omega arith)) start))
   form_added {s} {t} {z} m (Privacy a) k start =
-      let la : a < 256 = in_table a k.0.0 in
+      let la : a < 256 = ground_byte n a few k.0.0 in
       subst (Holds s _) (three_terms z m (unit s (bit_or a secret)) (unit s a) (unit s secret))
       (minus secret m (omega arith) (minus a m la (plus (bit_or a secret) m (or_lt 8 a secret la (omega arith)) start)))
 
@@ -90,17 +88,14 @@ zeros = replicate 256 (pos 0)
 module _ (n : ℕ) (few : n ≤ 7) (qualified : ℕ → Bool) where
   lines_added : {s : ℕ} {t : List ℤ} {z : ℤ} (ls : List Line) → AllByRecursion (Lawful n qualified) ls → Holds s t z →
       get_or (add_lines t ls) s (pos 0) ≡ z +ℤ combination ls (unit s)
-  lines_added {s} {t} {z} [] all k = k.here ∙ nothing z
-    where
-      nothing : (z : ℤ) → z ≡ z +ℤ pos 0
-      nothing z = omega (arith, ints)
+  lines_added {s} {t} {z} [] all k = k.here ∙ omega (arith, ints)
   lines_added {s} {t} {z} (l ∷ ls) all k =
       lines_added {t = add_line t l} ls all.1 (form_added n few qualified l.multiplier l.inequality all.0 k) ∙
       +ℤ_assoc z (l.multiplier *ℤ form l.inequality (unit s)) (combination ls (unit s))
 
   coefficients : (s : ℕ) (ls : List Line) → InGround n s → AllByRecursion (Lawful n qualified) ls → coefficient (combination ls) s ≡ get_or (add_lines zeros ls) s (pos 0)
   coefficients s ls l all =
-      let empty : Holds s zeros (pos 0) = record { long = refl; here = get_or-replicate 256 s (pos 0) (pos 0) (in_table n few qualified s l) } in
+      let empty : Holds s zeros (pos 0) = record { long = refl; here = get_or-replicate 256 s (pos 0) (pos 0) (ground_byte n s few l) } in
       sym (lines_added ls all empty ∙ +ℤ_idl (combination ls (unit s)))
 
 -- ---- the same reading, into a table in place of a list

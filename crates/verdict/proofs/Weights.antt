@@ -1,13 +1,12 @@
 -- The weights of a head, one by one. Assumes nothing.
 use Rattle.std.proofs.Common.{◌≡◌, ℕ, zero, suc, ◌+◌, ◌-◌, ◌*◌, ◌<◌, ◌≤◌, List, ◌++◌, length, get_or, take, drop, sum, replicate, sym, refl, ap, ◌∙◌, add-one, arith}
-use Rattle.std.proofs.lemmas.List.{length-append, length-replicate}
 use Rattle.std.proofs.lemmas.List.Sums.{sum_by_more}
 use Rattle.polymatroid.specs.Certificate.{sum_to}
 use Rattle.record.specs.Reading.{two}
 use Rattle.record.proofs.Stored.{two_drop}
 use Rattle.certificate.specs.declared.header.Header.{Header}
-use Rattle.certificate.specs.Format.{numbers, weight_of}
-use Rattle.verdict.specs.Heads.{weights_in}
+use Rattle.certificate.specs.Format.{numbers, weight_of, header_in}
+use Rattle.certificate.proofs.Heads.{weights_beyond}
 
 -- the weights of the first i participants added up, two ways
 pub total_is : (h : Header) (i : ℕ) → i ≤ length h.weights → sum (take i h.weights) ≡ sum_to i (weight_of h)
@@ -25,22 +24,8 @@ at_number zero z i bytes l = absurd (omega arith)
 at_number (suc n) z zero bytes l = refl
 at_number (suc n) z (suc i) bytes l = at_number n z i (drop 2 bytes) (omega arith) ∙ two_drop 2 bytes (2 * i) (2 * suc i) (omega arith)
 
-at_zero : (n z i : ℕ) (bytes : List ℕ) → n ≤ i → get_or (numbers n bytes ++ replicate z 0) i 0 ≡ 0
-at_zero zero zero i bytes l = refl
-at_zero zero (suc z) zero bytes l = refl
-at_zero zero (suc z) (suc i) bytes l = at_zero zero z i bytes (omega arith)
-at_zero (suc n) z zero bytes l = absurd (omega arith)
-at_zero (suc n) z (suc i) bytes l = at_zero n z i (drop 2 bytes) (omega arith)
-
-pub weight_here : (n i : ℕ) (bytes : List ℕ) → i < n → get_or (weights_in n bytes) i 0 ≡ two bytes (2 * i + 3)
+pub weight_here : (n i : ℕ) (bytes : List ℕ) → i < n → get_or ((header_in n bytes).weights) i 0 ≡ two bytes (2 * i + 3)
 weight_here n i bytes l = at_number n (7 - n) i (drop 3 bytes) l ∙ two_drop 3 bytes (2 * i) (2 * i + 3) (omega arith)
 
-pub weight_beyond : (n i : ℕ) (bytes : List ℕ) → n ≤ i → get_or (weights_in n bytes) i 0 ≡ 0
-weight_beyond n i bytes l = at_zero n (7 - n) i (drop 3 bytes) l
-
-length_numbers : (k : ℕ) (bytes : List ℕ) → length (numbers k bytes) ≡ k
-length_numbers zero bytes = refl
-length_numbers (suc k) bytes = ap suc (length_numbers k (drop 2 bytes))
-
-pub length_weights : (n : ℕ) (bytes : List ℕ) → n ≤ 7 → length (weights_in n bytes) ≡ 7
-length_weights n bytes l = length-append (numbers n (drop 3 bytes)) (replicate (7 - n) 0) ∙ omega (arith, length_numbers n (drop 3 bytes), length-replicate {A = ℕ} (7 - n) 0)
+pub weight_beyond : (n i : ℕ) (bytes : List ℕ) → n ≤ i → get_or ((header_in n bytes).weights) i 0 ≡ 0
+weight_beyond n i bytes l = weights_beyond n (drop 3 bytes) i l

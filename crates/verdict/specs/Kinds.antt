@@ -16,25 +16,28 @@ of_kind n qualified Submodularity = submodularity n
 of_kind n qualified Correctness = correctness n qualified
 of_kind n qualified Privacy = privacy n qualified
 
--- its parts: what a kind asks of the multiplier, of the sets' place and of the sets, and what it says
+-- what a kind asks of the multiplier
 abbrev pub takes : Kind → ℤ → Bool
 takes Monotonicity m = usable multiplier_limit m && positive m
 takes Submodularity m = usable multiplier_limit m && positive m
 takes Correctness m = usable multiplier_limit m
 takes Privacy m = usable multiplier_limit m
 
+-- where its sets may be
 abbrev pub has_place : ℕ → Kind → ℕ → ℕ → Bool
 has_place n Monotonicity a b = in_ground n a && in_ground n b
 has_place n Submodularity a b = in_ground n a && in_ground n b
 has_place n Correctness a b = coalition n a && b == 0
 has_place n Privacy a b = coalition n a && b == 0
 
+-- what it asks of them there
 abbrev pub is_lawful : (ℕ → Bool) → Kind → ℕ → ℕ → Bool
 is_lawful qualified Monotonicity a b = within a b && not (a == b)
 is_lawful qualified Submodularity a b = not (within a b) && not (within b a)
 is_lawful qualified Correctness a b = qualified a
 is_lawful qualified Privacy a b = not (qualified a)
 
+-- what it says of them
 abbrev pub inequality_of : Kind → ℕ → ℕ → Inequality
 inequality_of Monotonicity a b = monotone a b
 inequality_of Submodularity a b = submodular a b

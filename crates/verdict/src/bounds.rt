@@ -8,8 +8,8 @@ use record::Refusal;
 
 // Count and weight total of the bound, or why there is none; a fault of the access structure comes first. There is a bound
 // exactly where the bytes are the records of an access structure and of a right certificate for it, and the bound binds
-// every polymatroid that realises the access structure. A bound is a pair of numbers wherever it goes: the project's form for
-// fractions.
+// every polymatroid that realises the access structure. A bound is a pair of numbers wherever it goes: fractions are
+// tuples in this project.
 pub fn lower_bound(structure: &[u8], certificate: &[u8]) -> Result<(u32, u32), Refusal>
     ensures value { result ≡ lower_bound_in structure.now certificate.now }
     ensures exactly { (count total : ℕ) → ProvedExactly structure.now certificate.now count total }

@@ -1,12 +1,12 @@
 // Reading the head of a certificate record.
-ghost use Rattle.std.specs.Prelude.{◌≡◌, ℕ, ◌<◌, slice_index};
+ghost use Rattle.std.specs.Prelude.{◌≡◌, ℕ, ◌+◌, ◌*◌, ◌<◌, slice_index};
 ghost use Rattle.access.specs.View.{participants_of};
 ghost use Rattle.record.specs.Faults.{outside};
 ghost use Rattle.record.specs.Reading.{refused_as};
 ghost use Rattle.certificate.specs.declared.header.Header.{Header as HeadOf};
 ghost use Rattle.certificate.specs.Theorems.{HeadReadExactly};
 ghost use Rattle.certificate.specs.Format.{header_in, header_of};
-ghost use Rattle.verdict.specs.Heads.{weights_in, shown};
+ghost use Rattle.verdict.specs.Heads.{shown};
 
 use crate::head::Head;
 use access::AccessStructure;
@@ -16,40 +16,81 @@ use std::array;
 
 const MARK: [u8; 2] = [0x43, 0x45];
 
-// The weight of the participant with `i` others before it, or 0 beyond the participants.
-#[tactic(auto, using(crate::proofs::Weights::weight_here, crate::proofs::Weights::weight_beyond))]
-fn weight_at(structure: &AccessStructure, bytes: &[u8], i: usize) -> u32
-    ensures value { result ≡ slice_index (weights_in (participants_of structure.now) bytes.now) i }
-    ensures small { result < 65536 }
+// How many bytes the head takes.
+pub(crate) fn head_length(structure: &AccessStructure) -> usize
+    ensures { result ≡ 2 * participants_of structure.now + 9 }
 {
-    if i < usize::from(structure.participants()) {
-        u32::from(two_at(bytes, 2 * i + 3))
-    } else {
-        0
+    2 * usize::from(structure.participants()) + 9
+}
+
+// The bytes that should begin with a head for the access structure's participants.
+#[derive(Clone, Copy)]
+struct HeadBytes<'a> {
+    structure: &'a AccessStructure,
+    bytes: &'a [u8],
+}
+
+impl HeadBytes<'_> {
+    // The weight of the participant with `i` others before it, or 0 beyond the participants.
+    #[tactic(auto, using(crate::proofs::Weights::weight_here, crate::proofs::Weights::weight_beyond))]
+    fn weight_at(&self, i: usize) -> u32
+        ensures value { result ≡ slice_index (header_in (participants_of self.now.structure.now) self.now.bytes.now).weights i }
+        ensures small { result < 65536 }
+    {
+        if i < usize::from(self.structure.participants()) {
+            u32::from(two_at(self.bytes, 2 * i + 3))
+        } else {
+            0
+        }
     }
-}
 
-// The weights of a head, and 0 beyond the participants.
-fn weights_of(structure: &AccessStructure, bytes: &[u8]) -> [u32; 7]
-    ensures value { result ≡ weights_in (participants_of structure.now) bytes.now }
-    ensures small { (k : ℕ) → slice_index result k < 65536 }
-{
-    array::from_fn(|i| weight_at(structure, bytes, i))
-}
+    // The weights, and 0 beyond the participants.
+    fn weights(&self) -> [u32; 7]
+        ensures value { result ≡ (header_in (participants_of self.now.structure.now) self.now.bytes.now).weights }
+        ensures small { (k : ℕ) → slice_index result k < 65536 }
+    {
+        array::from_fn(|i| self.weight_at(i))
+    }
 
-// The fields of a head.
-fn fields_of(structure: &AccessStructure, bytes: &[u8]) -> Head
-    ensures { result.header ≡ header_in (participants_of structure.now) bytes.now }
-{
-    let participants = structure.participants();
-    let at = 2 * usize::from(participants);
-    Head {
-        header: Header {
-            participants,
-            weights: weights_of(structure, bytes),
-            count: four_at(bytes, at + 3),
-            lines: two_at(bytes, at + 7),
-        },
+    // The fields.
+    fn fields(&self) -> Head
+        ensures { result.header ≡ header_in (participants_of self.now.structure.now) self.now.bytes.now }
+    {
+        let end = head_length(self.structure);
+        Head {
+            header: Header {
+                participants: self.structure.participants(),
+                weights: self.weights(),
+                count: four_at(self.bytes, end - 6),
+                lines: two_at(self.bytes, end - 2),
+            },
+        }
+    }
+
+    // The head, or why there is none.
+    fn head(&self) -> Result<Head, Reason>
+        ensures { shown result ≡ header_of (participants_of self.now.structure.now) self.now.bytes.now }
+    {
+        need(self.bytes, 2)?;
+        if !is_marked(self.bytes, MARK) {
+            return Err(Reason::WrongMark);
+        }
+        need(self.bytes, 3)?;
+        if !matches!(self.bytes[2], 1..=7) {
+            return Err(Reason::OutOfRange);
+        }
+        if self.bytes[2] != self.structure.participants() {
+            return Err(Reason::ParticipantsDiffer);
+        }
+        need(self.bytes, head_length(self.structure))?;
+        let head = self.fields();
+        if head.total() == 0 || head.header.count == 0 {
+            return Err(Reason::OutOfRange);
+        }
+        if !matches!(head.header.lines, 1..=4096) {
+            return Err(Reason::OutOfRange);
+        }
+        Ok(head)
     }
 }
 
@@ -57,26 +98,7 @@ fn fields_of(structure: &AccessStructure, bytes: &[u8]) -> Head
 pub(crate) fn head_of(structure: &AccessStructure, bytes: &[u8]) -> Result<Head, Reason>
     ensures { shown result ≡ header_of (participants_of structure.now) bytes.now }
 {
-    need(bytes, 2)?;
-    if !is_marked(bytes, MARK) {
-        return Err(Reason::WrongMark);
-    }
-    need(bytes, 3)?;
-    if !(1..=7).contains(&bytes[2]) {
-        return Err(Reason::OutOfRange);
-    }
-    if bytes[2] != structure.participants() {
-        return Err(Reason::ParticipantsDiffer);
-    }
-    need(bytes, 2 * usize::from(bytes[2]) + 9)?;
-    let head = fields_of(structure, bytes);
-    if head.total() == 0 || head.header.count < 1 {
-        return Err(Reason::OutOfRange);
-    }
-    if !(1..=4096).contains(&head.header.lines) {
-        return Err(Reason::OutOfRange);
-    }
-    Ok(head)
+    HeadBytes { structure, bytes }.head()
 }
 
 // The same, and what it means: a head comes out exactly if the record begins with the bytes of that lawful head.

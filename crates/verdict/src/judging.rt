@@ -12,7 +12,7 @@ ghost use Rattle.certificate.specs.Theorems.{TakenExactly, TrustedBound};
 ghost use Rattle.verdict.specs.Sums.{settled};
 
 use crate::head::Head;
-use crate::heads::head_of;
+use crate::heads::{head_length, head_of};
 use crate::sums::add_lines;
 use access::AccessStructure;
 use record::{Reason, RecordFault};
@@ -78,7 +78,10 @@ pub fn judge(structure: &AccessStructure, bytes: &[u8]) -> Result<(u32, u32), Re
     ensures binds { (count total : ℕ) → result ≡ Ok (count, total) → TrustedBound (participants_of structure.now) (qualified_in structure.now) count total }
 {
     let head = head_of(structure, bytes)?;
-    let lines = &bytes[2 * usize::from(structure.participants()) + 9..];
-    let table = add_lines(structure, head.header.lines, lines)?;
+    let table = add_lines(
+        structure,
+        head.header.lines,
+        &bytes[head_length(structure)..],
+    )?;
     head.conclude(&table)
 }

@@ -1,13 +1,17 @@
 // The kinds of lines: what each asks of its multiplier and its sets, in the order in which it is tried.
 ghost use Rattle.std.specs.Prelude.{◌≡◌, ◌&&◌};
+ghost use Rattle.std.proofs.Common.{to_z};
+ghost use Rattle.std.specs.Int.{w16};
+ghost use Rattle.record.specs.Reading.{two, byte};
 ghost use Rattle.access.specs.View.{participants_of, qualified_in};
 ghost use Rattle.certificate.specs.Lines.{usable, positive, multiplier_limit, body};
 ghost use Rattle.verdict.specs.Kinds.{of_kind, takes, has_place, is_lawful, inequality_of};
 
-use access::{AccessStructure, in_ground, is_coalition, is_within};
+use access::{AccessStructure, are_comparable, in_ground, is_coalition, is_within};
 use polymatroid::{Inequality, Line};
 use record::{Reason, byte_at, two_at};
 
+// What a line's mark says. Not an `Inequality` at once: the last two kinds have no second set, and the record's has to be 0.
 #[derive(Clone, Copy)]
 pub(crate) enum Kind {
     Monotonicity,
@@ -16,11 +20,33 @@ pub(crate) enum Kind {
     Privacy,
 }
 
+// What stands behind the mark.
+#[derive(Clone, Copy)]
+struct Terms {
+    multiplier: i16,
+    first: u8,
+    second: u8,
+}
+
+impl Terms {
+    fn stored(rest: &[u8]) -> Terms
+        ensures multiplier { result.multiplier ≡ to_z w16 (two rest.now 0) }
+        ensures first { result.first ≡ byte rest.now 2 }
+        ensures second { result.second ≡ byte rest.now 3 }
+    {
+        Terms {
+            multiplier: two_at(rest, 0).cast_signed(),
+            first: byte_at(rest, 2),
+            second: byte_at(rest, 3),
+        }
+    }
+}
+
 // Neither 0 nor -32,768.
 fn is_usable(multiplier: i16) -> bool
     ensures { result ≡ usable multiplier_limit multiplier }
 {
-    multiplier != 0 && multiplier != -32768
+    multiplier != 0 && multiplier != i16::MIN
 }
 
 // The same, and more than 0.
@@ -32,46 +58,48 @@ fn is_positive(multiplier: i16) -> bool
 
 impl Kind {
     // Whether a line of this kind may have the multiplier.
-    fn takes(self, multiplier: i16) -> bool
-        ensures { result ≡ takes self multiplier }
+    fn takes(self, terms: Terms) -> bool
+        ensures { result ≡ takes self terms.multiplier }
     {
         match self {
-            Kind::Monotonicity | Kind::Submodularity => is_positive(multiplier),
-            Kind::Correctness | Kind::Privacy => is_usable(multiplier),
+            Kind::Monotonicity | Kind::Submodularity => is_positive(terms.multiplier),
+            Kind::Correctness | Kind::Privacy => is_usable(terms.multiplier),
         }
     }
 
     // Whether the sets are two of the ground set, or a coalition and no second set.
-    fn has_place(self, n: u8, a: u8, b: u8) -> bool
-        ensures { result ≡ has_place n self a b }
+    fn has_place(self, n: u8, terms: Terms) -> bool
+        ensures { result ≡ has_place n self terms.first terms.second }
     {
         match self {
-            Kind::Monotonicity | Kind::Submodularity => in_ground(n, a) && in_ground(n, b),
-            Kind::Correctness | Kind::Privacy => is_coalition(n, a) && b == 0,
+            Kind::Monotonicity | Kind::Submodularity => in_ground(n, terms.first)
+                && in_ground(n, terms.second),
+            Kind::Correctness | Kind::Privacy => is_coalition(n, terms.first) && terms.second == 0,
         }
     }
 
     // Whether a line of this kind is lawful at these sets.
-    fn is_lawful(self, structure: &AccessStructure, a: u8, b: u8) -> bool
-        ensures { result ≡ is_lawful (qualified_in structure.now) self a b }
+    fn is_lawful(self, structure: &AccessStructure, terms: Terms) -> bool
+        ensures { result ≡ is_lawful (qualified_in structure.now) self terms.first terms.second }
     {
         match self {
-            Kind::Monotonicity => is_within(a, b) && a != b,
-            Kind::Submodularity => !is_within(a, b) && !is_within(b, a),
-            Kind::Correctness => structure.is_qualified(a),
-            Kind::Privacy => !structure.is_qualified(a),
+            Kind::Monotonicity => is_within(terms.first, terms.second)
+                && terms.first != terms.second,
+            Kind::Submodularity => !are_comparable(terms.first, terms.second),
+            Kind::Correctness => structure.is_qualified(terms.first),
+            Kind::Privacy => !structure.is_qualified(terms.first),
         }
     }
 
     // What a line of this kind says of the sets.
-    fn inequality(self, a: u8, b: u8) -> Inequality
-        ensures { result ≡ inequality_of self a b }
+    fn inequality(self, terms: Terms) -> Inequality
+        ensures { result ≡ inequality_of self terms.first terms.second }
     {
         match self {
-            Kind::Monotonicity => Inequality::Monotonicity(a, b),
-            Kind::Submodularity => Inequality::Submodularity(a, b),
-            Kind::Correctness => Inequality::Correctness(a),
-            Kind::Privacy => Inequality::Privacy(a),
+            Kind::Monotonicity => Inequality::Monotonicity(terms.first, terms.second),
+            Kind::Submodularity => Inequality::Submodularity(terms.first, terms.second),
+            Kind::Correctness => Inequality::Correctness(terms.first),
+            Kind::Privacy => Inequality::Privacy(terms.first),
         }
     }
 
@@ -79,20 +107,19 @@ impl Kind {
     pub(crate) fn read(self, structure: &AccessStructure, rest: &[u8]) -> Result<Line, Reason>
         ensures { result ≡ body (of_kind (participants_of structure.now) (qualified_in structure.now) self) rest.now }
     {
-        let multiplier = two_at(rest, 0).cast_signed();
-        let (a, b) = (byte_at(rest, 2), byte_at(rest, 3));
-        if !self.takes(multiplier) {
+        let terms = Terms::stored(rest);
+        if !self.takes(terms) {
             return Err(Reason::OutOfRange);
         }
-        if !self.has_place(structure.participants(), a, b) {
+        if !self.has_place(structure.participants(), terms) {
             return Err(Reason::SetNotAllowed);
         }
-        if !self.is_lawful(structure, a, b) {
+        if !self.is_lawful(structure, terms) {
             return Err(Reason::Unlawful);
         }
         Ok(Line {
-            multiplier: i32::from(multiplier),
-            inequality: self.inequality(a, b),
+            multiplier: i32::from(terms.multiplier),
+            inequality: self.inequality(terms),
         })
     }
 }

@@ -26,26 +26,27 @@ fn add_line(table: &mut [i64; 256], line: Line)
     ensures value { table.new ≡ add_line table.old line }
     ensures grows { peak table.new ≤ peak table.old + 2 ^ 33 }
 {
-    let m = i64::from(line.multiplier);
+    let more = i64::from(line.multiplier);
+    let less = -more;
     match line.inequality {
         Inequality::Monotonicity(a, b) => {
-            add_at(table, b, m);
-            add_at(table, a, -m);
+            add_at(table, b, more);
+            add_at(table, a, less);
         }
         Inequality::Submodularity(a, b) => {
-            add_at(table, a, m);
-            add_at(table, b, m);
-            add_at(table, a | b, -m);
-            add_at(table, a & b, -m);
+            add_at(table, a, more);
+            add_at(table, b, more);
+            add_at(table, a | b, less);
+            add_at(table, a & b, less);
         }
         Inequality::Correctness(a) => {
-            add_at(table, a | 1, m);
-            add_at(table, a, -m);
+            add_at(table, a | 1, more);
+            add_at(table, a, less);
         }
         Inequality::Privacy(a) => {
-            add_at(table, a | 1, m);
-            add_at(table, a, -m);
-            add_at(table, 1, -m);
+            add_at(table, a | 1, more);
+            add_at(table, a, less);
+            add_at(table, 1, less);
         }
     }
 }

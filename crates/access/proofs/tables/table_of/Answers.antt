@@ -1,5 +1,5 @@
 use Rattle.std.proofs.Common.{rules, false}
-use Rattle.record.proofs.FromFn.{called_each}
+use Rattle.polymatroid.proofs.FromFn.{called_each}
 use Rattle.access.proofs.tables.table_of.Goals as goal
 
 pub returns-clause-each : goal.returns-clause-each

@@ -1,4 +1,4 @@
-use Rattle.std.proofs.Common.{◌≡◌, ℕ, ◌*◌, ◌<◌, Bool, false, List, length, get_or, sym, refl, subst}
+use Rattle.std.proofs.Common.{◌≡◌, ℕ, ◌*◌, ◌<◌, Bool, false, List, length, get_or, sym, subst}
 use Rattle.std.proofs.lemmas.List.FromFn.{fill_by_all}
 use Rattle.polymatroid.specs.Realising.{IsAccessStructure}
 use Rattle.access.specs.Table.{qualified_by, contains_one, table_of}
@@ -15,8 +15,5 @@ invariant_of-result c =
     subst (λ (t : List Bool). IsAccessStructure c.args.participants (qualified_by t)) (sym table) (table_is_structure c.args.participants c.args.sets.now c.requires) in
     record { some = c.requires.some; few = c.requires.few; upward = laws.0; empty = laws.1; everyone = laws.2 }
 
-pub returns : goal.returns
-returns c = record {
-  participants = refl;
-  table = whole c.args.sets.now c.table_of.result c.table_of.ensures.sized c.table_of.ensures.each;
-}
+pub returns-clause-table : goal.returns-clause-table
+returns-clause-table c = whole c.args.sets.now c.table_of.result c.table_of.ensures.sized c.table_of.ensures.each

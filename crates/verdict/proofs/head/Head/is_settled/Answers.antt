@@ -2,8 +2,8 @@ use Rattle.std.proofs.Common.{◌≡◌, ℕ, ◌+◌, ◌^◌, Bool, get_or, po
 use Rattle.std.proofs.lemmas.Nat.{one_shl}
 use Rattle.std.proofs.lemmas.Iterator.{YieldsList-from_range}
 use Rattle.std.proofs.lemmas.Iterator.Search.{all_from_yields_List}
+use Rattle.polymatroid.proofs.Decides.{upwards}
 use Rattle.certificate.specs.Judge.{agree_at, claimed}
-use Rattle.verdict.proofs.Below.{all_listed}
 use Rattle.verdict.proofs.head.Head.is_settled.Goals as goal
 
 pub returns : goal.returns
@@ -13,4 +13,4 @@ returns c =
     let size = one_shl (c.from.result + 1) 16 (omega arith) in
     let same : 2 ^ (c.from.result + 1) ≡ sets = ap (λ k. 2 ^ (k + 1)) c.from.ensures in
     all_from_yields_List test _ _ c.all.result c.all.ensures.ran (YieldsList-from_range 0 _ sets refl (omega arith)) (λ x b q k. search (rules, tests)) ∙
-    all_listed test sets
+    upwards sets test
