@@ -7,5 +7,5 @@ mod structure;
 mod tables;
 
 pub use reading::{listed_sets_are_minimal, read_structure, records_read_exactly};
-pub use sets::{are_comparable, in_ground, is_coalition, is_within};
+pub use sets::{are_comparable, in_ground, is_coalition, is_properly_within, is_within};
 pub use structure::AccessStructure;

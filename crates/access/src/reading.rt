@@ -6,7 +6,7 @@ ghost use Rattle.access.specs.View.{viewed, ComesOutAt};
 
 use crate::sets::{are_comparable, is_coalition};
 use crate::structure::AccessStructure;
-use record::{Reason, RecordFault, is_marked, need};
+use record::{Reason, RecordFault, need, need_mark};
 
 const MARK: [u8; 2] = [0x53, 0x54];
 
@@ -38,10 +38,7 @@ fn is_antichain(sets: &[u8]) -> bool
 fn check(bytes: &[u8]) -> Result<(), Reason>
     ensures { listed_in bytes.now ≡ and_then result (λ _. Ok (participants_in bytes.now, sets_in bytes.now)) }
 {
-    need(bytes, 2)?;
-    if !is_marked(bytes, MARK) {
-        return Err(Reason::WrongMark);
-    }
+    need_mark(bytes, MARK)?;
     need(bytes, 4)?;
     let n = bytes[2];
     let count = bytes[3];

@@ -1,5 +1,5 @@
 // Sets of participants and the secret as codes: bit 0 is the secret, bit i is participant i.
-ghost use Rattle.std.specs.Prelude.{◌≡◌};
+ghost use Rattle.std.specs.Prelude.{◌≡◌, not, ◌&&◌, ◌==◌};
 ghost use Rattle.polymatroid.specs.Tests.{in_ground, within, coalition};
 ghost use Rattle.access.specs.Format.{comparable};
 
@@ -15,6 +15,13 @@ pub fn is_within(a: u8, b: u8) -> bool
     ensures { result ≡ within a b }
 {
     a & b == a
+}
+
+// Whether every member of `a` is a member of `b`, and the two are not the same.
+pub fn is_properly_within(a: u8, b: u8) -> bool
+    ensures { result ≡ (within a b && not (a == b)) }
+{
+    is_within(a, b) && a != b
 }
 
 // Whether the set is one of participants alone.

@@ -7,7 +7,7 @@ ghost use Rattle.access.specs.Table.{contains_one, table_of, smaller_by, minimal
 ghost use Rattle.access.specs.Format.{LawfulSets};
 ghost use Rattle.access.specs.View.{participants_of, qualified_in};
 
-use crate::sets::is_within;
+use crate::sets::{is_properly_within, is_within};
 use crate::structure::AccessStructure;
 use std::array;
 
@@ -60,7 +60,7 @@ impl AccessStructure {
         requires { k < 128 }
         ensures { result ≡ smaller_by self.now.qualified set k }
     {
-        is_within(2 * k, set) && 2 * k != set && self.is_qualified(2 * k)
+        is_properly_within(2 * k, set) && self.is_qualified(2 * k)
     }
 
     // Whether no other coalition within the set is qualified.

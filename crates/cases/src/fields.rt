@@ -3,7 +3,8 @@ use field::Field;
 use galois::{Binary, Gf16, Prime};
 use std::process::Abort;
 
-// a added b times, each time less q where the sum has reached it.
+// a added b times, each time less q where the sum has reached it. Here and below the order is a plain number beside the codes, as the
+// tests name it.
 fn by_sums(q: u8, a: u8, b: u8) -> u8 {
     (0..b).fold(0u8, |sum, _| {
         let next = sum.wrapping_add(a);

@@ -25,7 +25,7 @@ fn tied<F: Field>(f: &F, seed: u32) -> [u8; 512] {
     m
 }
 
-// The rank of the vectors that the first codes are.
+// The rank of the vectors that the first codes are. Tried with slices at the calls: the bounds of the later ones are not proved.
 fn rank_of_first<F: Field>(f: &F, m: &[u8; 512], codes: usize, width: usize) -> Option<u8> {
     rank(f, m.get(..codes)?, width)
 }

@@ -41,7 +41,7 @@ pub fn rank<F: Field>(f: &F, vectors: &[u8], width: usize) -> Option<u8>
 }
 
 // Writes a vector to the front of each row. Tried with `zip` of `iter_mut` and `chunks_exact`: the proof does not close, since
-// nothing is then known of the rows.
+// nothing is then known of the rows. A width, like a column, is a plain number, asked to be in range where it is used.
 fn fill(rows: &mut [Row], vectors: &[u8], width: usize)
     requires whole { length rows.old * width ≡ length vectors.now }
     requires narrow { width ≤ WIDTH }

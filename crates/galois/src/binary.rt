@@ -22,7 +22,8 @@ fn where_odd(b: u8, a: u8) -> u8
 }
 
 impl Binary {
-    // y times a code, modulo the polynomial of order q.
+    // y times a code, modulo the polynomial of order q. That it is a code is asked, here, in `product` and in a table's look-up: a
+    // type for codes would be made of a byte at every call.
     fn times_y(&self, a: u8) -> u8
         requires { a < self.now.q }
         ensures is { result ≡ times_y self.now.q a }

@@ -29,7 +29,7 @@ const PRODUCTS: [[u8; 16]; 16] = [
     [0, 15, 13, 2, 9, 6, 4, 11, 1, 14, 12, 3, 8, 7, 5, 10],
 ];
 
-// The product of two codes, from a table that holds the products.
+// The product of two codes, from a table that holds the products. The table is a parameter, since a constant has no name in a proof.
 fn product_at(table: &[[u8; 16]; 16], a: u8, b: u8) -> u8
     requires right { holds_products table.now ≡ true }
     requires codes { (a < 16) × (b < 16) }
@@ -48,7 +48,8 @@ impl Field for Gf16 {
         16
     }
 
-    // As in `Binary`: one body for both would call `code` of the impl that calls it, a cycle the check refuses.
+    // `add` and `neg` as in `Binary`, a line each: a body for both would call `code` of the impl that calls it, a cycle, which the
+    // check refuses or wants a measure for.
     fn add(&self, a: u8, b: u8) -> u8 {
         self.code(a) ^ self.code(b)
     }

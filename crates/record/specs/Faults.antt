@@ -1,4 +1,4 @@
--- The numbers of the refusals, and how a fault is handed on. Assumes nothing.
+-- The numbers of the refusals, how a fault is handed on, and how a refusal is printed. Assumes nothing.
 use Rattle.std.specs.Prelude.{ℕ, List, ◌∷◌, ◌++◌, Some, None, decimal, unwrap_or}
 use Rattle.record.specs.declared.faults.Reason.{Reason}
 use Rattle.record.specs.declared.faults.Reason.TheVariants.{CutShort, WrongMark, OutOfRange, SetNotAllowed, NotAntichain, Unlawful, SumDiffers, LeftOver, ParticipantsDiffer}

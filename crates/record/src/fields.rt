@@ -1,7 +1,8 @@
 // Fields of a record, at their offsets. Stored numbers have the highest byte first; a byte past the end counts as 0.
 // Bytes and offset are no struct: the offset is another at each call, so it would hold the bytes alone.
-ghost use Rattle.std.specs.Prelude.{◌≡◌, ℕ, ◌+◌, ◌<◌, drop, slice_index};
-ghost use Rattle.record.specs.Reading.{byte, two, four, marked, needed};
+ghost use Rattle.std.specs.Prelude.{◌≡◌, ℕ, ◌+◌, ◌<◌, drop, slice_index, Ok};
+ghost use Rattle.record.specs.declared.faults.Reason.TheVariants.{CutShort, WrongMark};
+ghost use Rattle.record.specs.Reading.{byte, two, four, marked, needed, holds, tried};
 
 use crate::faults::Reason;
 
@@ -28,7 +29,8 @@ fn rest_at(bytes: &[u8], at: usize) -> &[u8]
     bytes.get(at..).unwrap_or(&[])
 }
 
-// N bytes.
+// N bytes from an offset on, 0 past the end. By the slice's own copy, which needs no proof: `array::from_fn` over `byte_at` would
+// need one of what its closure reads.
 fn bytes_at<const N: usize>(bytes: &[u8], at: usize) -> [u8; N]
     ensures { (i : ℕ) → i < N → slice_index result i ≡ byte bytes.now (at + i) }
 {
@@ -51,9 +53,21 @@ pub fn four_at(bytes: &[u8], at: usize) -> u32
     u32::from_be_bytes(bytes_at(bytes, at))
 }
 
-// Whether the first two bytes are the mark. Byte by byte, as the definition: `==` of the arrays is no shorter to prove or to read.
+// Whether the first two bytes are the mark. Byte by byte, as the definition: tried with `==` of the arrays, and the proof does not
+// close, since it does not know their lengths.
 pub fn is_marked(bytes: &[u8], mark: [u8; 2]) -> bool
     ensures { result ≡ marked bytes.now mark }
 {
     byte_at(bytes, 0) == mark[0] && byte_at(bytes, 1) == mark[1]
+}
+
+// The record begins with the mark, or why not.
+pub fn need_mark(bytes: &[u8], mark: [u8; 2]) -> Result<(), Reason>
+    ensures { result ≡ tried (holds 2 bytes.now) CutShort (tried (marked bytes.now mark) WrongMark (Ok tt)) }
+{
+    need(bytes, 2)?;
+    if !is_marked(bytes, mark) {
+        return Err(Reason::WrongMark);
+    }
+    Ok(())
 }

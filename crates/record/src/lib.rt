@@ -6,4 +6,4 @@ mod fields;
 mod refusing;
 
 pub use faults::{LineFault, Reason, RecordFault, Refusal};
-pub use fields::{byte_at, four_at, is_marked, need, two_at};
+pub use fields::{byte_at, four_at, is_marked, need, need_mark, two_at};

@@ -11,7 +11,7 @@ ghost use Rattle.verdict.specs.Heads.{shown};
 use crate::head::Head;
 use access::AccessStructure;
 use certificate::Header;
-use record::{Reason, RecordFault, four_at, is_marked, need, two_at};
+use record::{Reason, RecordFault, four_at, need, need_mark, two_at};
 use std::array;
 
 const MARK: [u8; 2] = [0x43, 0x45];
@@ -25,9 +25,9 @@ pub(crate) fn head_length(structure: &AccessStructure) -> usize
 
 // The bytes that should begin with a head for the access structure's participants.
 #[derive(Clone, Copy)]
-struct HeadBytes<'a> {
-    structure: &'a AccessStructure,
-    bytes: &'a [u8],
+pub(crate) struct HeadBytes<'a> {
+    pub structure: &'a AccessStructure,
+    pub bytes: &'a [u8],
 }
 
 impl HeadBytes<'_> {
@@ -68,13 +68,10 @@ impl HeadBytes<'_> {
     }
 
     // The head, or why there is none.
-    fn head(&self) -> Result<Head, Reason>
+    pub(crate) fn head(&self) -> Result<Head, Reason>
         ensures { shown result ≡ header_of (participants_of self.now.structure.now) self.now.bytes.now }
     {
-        need(self.bytes, 2)?;
-        if !is_marked(self.bytes, MARK) {
-            return Err(Reason::WrongMark);
-        }
+        need_mark(self.bytes, MARK)?;
         need(self.bytes, 3)?;
         if !matches!(self.bytes[2], 1..=7) {
             return Err(Reason::OutOfRange);
@@ -94,17 +91,11 @@ impl HeadBytes<'_> {
     }
 }
 
-// The head of a certificate record for the access structure's participants, or why it has none.
-pub(crate) fn head_of(structure: &AccessStructure, bytes: &[u8]) -> Result<Head, Reason>
-    ensures { shown result ≡ header_of (participants_of structure.now) bytes.now }
-{
-    HeadBytes { structure, bytes }.head()
-}
-
-// The same, and what it means: a head comes out exactly if the record begins with the bytes of that lawful head.
+// The head of a certificate record for the access structure's participants, or why it has none: a head comes out exactly if the record begins with the bytes of that lawful head.
 pub fn read_header(structure: &AccessStructure, bytes: &[u8]) -> Result<Header, RecordFault>
     ensures value { result ≡ refused_as outside (header_of (participants_of structure.now) bytes.now) }
     ensures exactly { (h : HeadOf) → HeadReadExactly (participants_of structure.now) bytes.now h }
 {
-    Ok(head_of(structure, bytes)?.header)
+    let head = HeadBytes { structure, bytes }.head()?;
+    Ok(head.header)
 }

@@ -12,7 +12,7 @@ ghost use Rattle.certificate.specs.Theorems.{TakenExactly, TrustedBound};
 ghost use Rattle.verdict.specs.Sums.{settled};
 
 use crate::head::Head;
-use crate::heads::{head_length, head_of};
+use crate::heads::{HeadBytes, head_length};
 use crate::sums::add_lines;
 use access::AccessStructure;
 use record::{Reason, RecordFault};
@@ -51,7 +51,7 @@ impl Head {
         set == 0 || table[usize::from(set)] == self.claim_at(set)
     }
 
-    // Whether it is the claim at all sets.
+    // Whether the table is the claim at every set of the ground set but the empty one.
     fn is_settled(&self, table: &[i64; 256]) -> bool
         ensures { result ≡ settled self.now.header table.now }
     {
@@ -77,7 +77,7 @@ pub fn judge(structure: &AccessStructure, bytes: &[u8]) -> Result<(u32, u32), Re
     ensures taken { (count total : ℕ) → TakenExactly (participants_of structure.now) (qualified_in structure.now) bytes.now count total }
     ensures binds { (count total : ℕ) → result ≡ Ok (count, total) → TrustedBound (participants_of structure.now) (qualified_in structure.now) count total }
 {
-    let head = head_of(structure, bytes)?;
+    let head = HeadBytes { structure, bytes }.head()?;
     let table = add_lines(
         structure,
         head.header.lines,

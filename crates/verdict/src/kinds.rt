@@ -7,7 +7,7 @@ ghost use Rattle.access.specs.View.{participants_of, qualified_in};
 ghost use Rattle.certificate.specs.Lines.{usable, positive, multiplier_limit, body};
 ghost use Rattle.verdict.specs.Kinds.{of_kind, takes, has_place, is_lawful, inequality_of};
 
-use access::{AccessStructure, are_comparable, in_ground, is_coalition, is_within};
+use access::{AccessStructure, are_comparable, in_ground, is_coalition, is_properly_within};
 use polymatroid::{Inequality, Line};
 use record::{Reason, byte_at, two_at};
 
@@ -58,12 +58,12 @@ fn is_positive(multiplier: i16) -> bool
 
 impl Kind {
     // Whether a line of this kind may have the multiplier.
-    fn takes(self, terms: Terms) -> bool
-        ensures { result ≡ takes self terms.multiplier }
+    fn takes(self, multiplier: i16) -> bool
+        ensures { result ≡ takes self multiplier }
     {
         match self {
-            Kind::Monotonicity | Kind::Submodularity => is_positive(terms.multiplier),
-            Kind::Correctness | Kind::Privacy => is_usable(terms.multiplier),
+            Kind::Monotonicity | Kind::Submodularity => is_positive(multiplier),
+            Kind::Correctness | Kind::Privacy => is_usable(multiplier),
         }
     }
 
@@ -83,8 +83,7 @@ impl Kind {
         ensures { result ≡ is_lawful (qualified_in structure.now) self terms.first terms.second }
     {
         match self {
-            Kind::Monotonicity => is_within(terms.first, terms.second)
-                && terms.first != terms.second,
+            Kind::Monotonicity => is_properly_within(terms.first, terms.second),
             Kind::Submodularity => !are_comparable(terms.first, terms.second),
             Kind::Correctness => structure.is_qualified(terms.first),
             Kind::Privacy => !structure.is_qualified(terms.first),
@@ -103,12 +102,13 @@ impl Kind {
         }
     }
 
-    // A line of this kind by what stands behind its mark, or why there is none.
+    // A line of this kind by what stands behind its mark, or why there is none. The access structure is no part of `Terms`: a line
+    // does not hold it.
     pub(crate) fn read(self, structure: &AccessStructure, rest: &[u8]) -> Result<Line, Reason>
         ensures { result ≡ body (of_kind (participants_of structure.now) (qualified_in structure.now) self) rest.now }
     {
         let terms = Terms::stored(rest);
-        if !self.takes(terms) {
+        if !self.takes(terms.multiplier) {
             return Err(Reason::OutOfRange);
         }
         if !self.has_place(structure.participants(), terms) {

@@ -51,7 +51,8 @@ fn add_line(table: &mut [i64; 256], line: Line)
     }
 }
 
-// The table after `count` lines, with nothing after them.
+// The table after `count` lines, with nothing after them. The bytes are those of the lines alone, so no struct has them beside
+// the access structure.
 pub(crate) fn add_lines(
     structure: &AccessStructure,
     count: u16,

@@ -1,3 +1,4 @@
+-- Cites the theorem that the function carries: the check finds none by itself.
 use Rattle.formula.proofs.Vectors.{vectors_lawful}
 use Rattle.formula.proofs.Graphs.{graphs_lawful}
 use Rattle.formula.proofs.Thresholds.{thresholds_lawful}

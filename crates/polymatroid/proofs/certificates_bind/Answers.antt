@@ -1,3 +1,4 @@
+-- Cites the theorem that the function carries: the check finds none by itself.
 use Rattle.polymatroid.proofs.Soundness.{weighted, sound}
 use Rattle.polymatroid.proofs.Lines.{lines_hold}
 use Rattle.polymatroid.proofs.Claims.{claims}
