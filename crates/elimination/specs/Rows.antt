@@ -1,5 +1,5 @@
 -- Vectors that stand one after another, and the rows on which elimination works. Assumes nothing.
-use Rattle.std.specs.Prelude.{◌≡◌, ℕ, zero, suc, ◌+◌, ◌*◌, ◌<◌, ◌≤◌, List, [], ◌∷◌, length, map, not, ◌==◌, Bool, slice_index, slice_index_or}
+use Rattle.std.specs.Prelude.{◌≡◌, ℕ, zero, suc, ◌+◌, ◌*◌, ◌<◌, ◌≤◌, List, [], ◌∷◌, ◌++◌, length, map, not, ◌==◌, Bool, slice_index, slice_index_or}
 use Rattle.field.specs.Laws.{Ops, code}
 use Rattle.span.specs.Span.{Vector, SameSpan}
 
@@ -32,6 +32,6 @@ ZeroLeft o c r = (k : ℕ) → k < c → code o.order (slice_index r k) ≡ 0
 abbrev pub RowsAre : ℕ → (ℕ → Vector) → List (List ℕ) → Type 0
 RowsAre d v rows = (i k : ℕ) → i < length rows → k < d → entry rows i k ≡ v i k
 
--- over the first d columns, for any d up to a row's 16, the rows span what they did
-abbrev pub SpanKept : Ops → (rows rows' : List (List ℕ)) → Type 0
-SpanKept o rows rows' = (d : ℕ) → d ≤ 16 → SameSpan o d (vectors rows) (vectors rows')
+-- over the first d columns, for any d up to w, the rows span what they did, whatever rows stand above them
+abbrev pub SpanKept : Ops → ℕ → (rows rows' : List (List ℕ)) → Type 0
+SpanKept o w rows rows' = (above : List (List ℕ)) (d : ℕ) → d ≤ w → SameSpan o d (vectors (above ++ rows)) (vectors (above ++ rows'))

@@ -20,18 +20,19 @@ fn exchange(rows: &mut [Row], p: usize)
 }
 
 // One turn at column c: divides the pivot's row by its code there, and makes the rows below it 0 there. That takes one
-// from the dimension, over any columns that c is among.
-fn turn<F: Field>(f: &F, pivot: &mut Row, below: &mut [Row], c: usize)
-    requires column { c < WIDTH }
+// from the dimension, over any columns up to d that c is among.
+fn turn<F: Field>(f: &F, pivot: &mut Row, below: &mut [Row], c: usize, d: usize)
+    requires column { c < d }
+    requires narrow { d ≤ WIDTH }
     requires real { code (F.ops f.now).order (slice_index pivot.old c) ≢ 0 }
     requires left { All (ZeroLeft (F.ops f.now) c) (pivot.old ∷ below.old) }
-    ensures falls { (d : ℕ) → c < d → d ≤ WIDTH → dimension (F.ops f.now) d (vectors (pivot.old ∷ below.old)) ≡ dimension (F.ops f.now) d (vectors below.new) + 1 }
+    ensures falls { (e : ℕ) → c < e → e ≤ d → dimension (F.ops f.now) e (vectors (pivot.old ∷ below.old)) ≡ dimension (F.ops f.now) e (vectors below.new) + 1 }
     ensures left { All (ZeroLeft (F.ops f.now) (c + 1)) below.new }
-    ensures span { SpanKept (F.ops f.now) (pivot.old ∷ below.old) (pivot.new ∷ below.new) }
+    ensures span { SpanKept (F.ops f.now) d (pivot.old ∷ below.old) (pivot.new ∷ below.new) }
 {
     let s = f.inv(pivot[c]);
-    scale(f, pivot, s);
-    clear(f, below, pivot, c);
+    scale(f, pivot, d, s);
+    clear(f, below, pivot, c, d);
 }
 
 // The dimension of the span of the rows' first d codes, by elimination in place: the rows at exit span what they spanned
@@ -43,7 +44,7 @@ pub(crate) fn eliminate<F: Field>(f: &F, rows: &mut [Row], c: usize, d: usize) -
     requires left { All (ZeroLeft (F.ops f.now) c) rows.old }
     ensures value { result ≡ dimension (F.ops f.now) d (vectors rows.old) }
     ensures most { result ≤ length rows.old }
-    ensures span { SpanKept (F.ops f.now) rows.old rows.new }
+    ensures span { SpanKept (F.ops f.now) d rows.old rows.new }
 {
     if c == d {
         return 0;
@@ -52,7 +53,7 @@ pub(crate) fn eliminate<F: Field>(f: &F, rows: &mut [Row], c: usize, d: usize) -
         Some(p) => {
             exchange(rows, p);
             let (pivot, below) = rows.split_first_mut().unwrap();
-            turn(f, pivot, below, c);
+            turn(f, pivot, below, c, d);
             1 + eliminate(f, below, c + 1, d)
         }
         None => eliminate(f, rows, c + 1, d),

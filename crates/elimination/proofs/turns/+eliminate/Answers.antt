@@ -21,13 +21,13 @@ pub returns-in-Some-clause-value : goal.returns-in-Some-clause-value
 returns-in-Some-clause-value g t c =
     pivot_value _ (g.met.F.Field.lawful c.args.f.now) _ _ _ _
     c.exchange.ensures.permutation (MatchOption-at_some _ _ _ c.unwrap.ensures c.split_first_mut.ensures.cases).0
-    _ _ _ _ c.requires.within c.if-c-d.false c.requires.narrow c.turn.ensures.falls c.eliminate.ensures.value
+    _ _ _ _ c.requires.within c.if-c-d.false c.turn.ensures.falls c.eliminate.ensures.value
 
 pub returns-in-Some-clause-span : goal.returns-in-Some-clause-span
 returns-in-Some-clause-span g t c =
     pivot_span _ (g.met.F.Field.lawful c.args.f.now) _ _ _ _
     c.exchange.ensures.permutation (MatchOption-at_some _ _ _ c.unwrap.ensures c.split_first_mut.ensures.cases).0
-    _ _ _ c.turn.ensures.span c.eliminate.ensures.span
+    _ _ _ _ c.turn.ensures.span c.eliminate.ensures.span
 
 pub eliminate-requires-in-None : goal.eliminate-requires-in-None
 eliminate-requires-in-None g t c = search (rules, no_pivot)
