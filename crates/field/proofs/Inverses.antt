@@ -13,11 +13,11 @@ module _ {q : ℕ} {add mul : ℕ → ℕ → ℕ} {neg inv : ℕ → ℕ} (L : 
       sym (code_at q b l) ∙ sym (free.undone L a n b) ∙ free.mul_left_comm L a (inv a) b ∙ ap (mul (inv a)) h
       ∙ free.mul_one L (inv a) ∙ code_at q (inv a) (L.inv_below a)
 
-  -- what trying the codes in turn finds
-  pub inverse_tried : (P : ℕ → Type 0) (a n : ℕ) (r : Option ℕ) → n ≡ q
-      → MatchOption r ((k : ℕ) → 0 ≤ k → k < n → mul a k ≡ 1 → ⊥) (λ b. (0 ≤ b) × (b < n) × (mul a b ≡ 1) × P b) → unwrap_or r 0 ≡ inv a
-  inverse_tried P a n None e none = elim (cases_eq (code q a) 0) [
-    | inl z ↦ sym (L.inv_code a ∙ ap inv z ∙ L.at_codes.inv_zero)
-    | inr real ↦ absurd (none (inv a) (omega arith) (omega (arith, L.inv_below a)) (free.mul_inv L a real))
+  -- what trying the codes in turn finds, with z = 0 where it finds none
+  pub inverse_tried : (P : ℕ → Type 0) (a n z : ℕ) (r : Option ℕ) → n ≡ q → z ≡ 0
+      → MatchOption r ((k : ℕ) → 0 ≤ k → k < n → mul a k ≡ 1 → ⊥) (λ b. (0 ≤ b) × (b < n) × (mul a b ≡ 1) × P b) → unwrap_or r z ≡ inv a
+  inverse_tried P a n z None e none_is tried = elim (cases_eq (code q a) 0) [
+    | inl o ↦ none_is ∙ sym (L.inv_code a ∙ ap inv o ∙ L.at_codes.inv_zero)
+    | inr real ↦ absurd (tried (inv a) (omega arith) (omega (arith, L.inv_below a)) (free.mul_inv L a real))
   ]
-  inverse_tried P a n (Some b) e found = only_one a b (omega (arith, found.1)) found.2 (λ z. omega (arith, found.2, free.none_mul L a b z))
+  inverse_tried P a n z (Some b) e none_is found = only_one a b (omega (arith, found.1)) found.2 (λ o. omega (arith, found.2, free.none_mul L a b o))

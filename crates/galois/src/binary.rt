@@ -4,6 +4,7 @@ ghost use Rattle.galois.specs.Polynomials.{is_computed_order, binary_ops};
 ghost use Rattle.galois.specs.Steps.{times_y, where_odd, stepwise};
 ghost use Rattle.galois.specs.Orders.{binary_laws};
 
+use crate::inverses::inverse_at;
 use field::Field;
 
 // The field of order 4 or 8. Not one type with `Prime`: only `order` would be shared, every other method and the
@@ -13,6 +14,10 @@ pub struct Binary {
     pub q: u8,
     ghost listed: { is_computed_order q ≡ true },
 }
+
+const INVERSES_4: [u8; 4] = [0, 1, 3, 2];
+
+const INVERSES_8: [u8; 8] = [0, 1, 5, 6, 7, 2, 3, 4];
 
 // a where the lowest term of b is there, else 0.
 fn where_odd(b: u8, a: u8) -> u8
@@ -68,5 +73,15 @@ impl Field for Binary {
 
     fn mul(&self, a: u8, b: u8) -> u8 {
         self.product(self.code(a), self.code(b))
+    }
+
+    // From a table of the order's: trying the codes costs up to 8 products.
+    fn inv(&self, a: u8) -> u8 {
+        let code = self.code(a);
+        if self.q == 4 {
+            inverse_at(&INVERSES_4, self.q, code)
+        } else {
+            inverse_at(&INVERSES_8, self.q, code)
+        }
     }
 }

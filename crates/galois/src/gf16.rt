@@ -3,6 +3,7 @@ ghost use Rattle.galois.specs.Polynomials.{binary_ops, times};
 ghost use Rattle.galois.specs.Tables.{holds_products};
 ghost use Rattle.galois.specs.Orders.{binary_laws};
 
+use crate::inverses::inverse_at;
 use field::Field;
 
 // The field of order 16.
@@ -29,6 +30,8 @@ const PRODUCTS: [[u8; 16]; 16] = [
     [0, 15, 13, 2, 9, 6, 4, 11, 1, 14, 12, 3, 8, 7, 5, 10],
 ];
 
+const INVERSES: [u8; 16] = [0, 1, 9, 14, 13, 11, 7, 6, 15, 2, 12, 5, 10, 4, 3, 8];
+
 // The product of two codes, from a table that holds the products. The table is a parameter, since a constant has no name in a proof.
 fn product_at(table: &[[u8; 16]; 16], a: u8, b: u8) -> u8
     requires right { holds_products table.now ≡ true }
@@ -38,7 +41,7 @@ fn product_at(table: &[[u8; 16]; 16], a: u8, b: u8) -> u8
     table[usize::from(a)][usize::from(b)]
 }
 
-// Polynomials over GF(2) modulo y^4 + y + 1, by a table of products.
+// Polynomials over GF(2) modulo y^4 + y + 1, by tables.
 impl Field for Gf16 {
     ghost ops = { λ _. binary_ops 16 };
 
@@ -60,5 +63,10 @@ impl Field for Gf16 {
 
     fn mul(&self, a: u8, b: u8) -> u8 {
         product_at(&PRODUCTS, self.code(a), self.code(b))
+    }
+
+    // From a table: trying the codes costs up to 16 products.
+    fn inv(&self, a: u8) -> u8 {
+        inverse_at(&INVERSES, 16, self.code(a))
     }
 }

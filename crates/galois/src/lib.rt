@@ -3,6 +3,7 @@
 
 mod binary;
 mod gf16;
+mod inverses;
 mod prime;
 
 pub use binary::Binary;

@@ -7,5 +7,5 @@ pub returns : goal.returns
 returns g c =
     let o = g.Self.Field.ops c.args.self.now in
     c.unwrap_or.ensures
-    ∙ inverse_tried (g.met.Self.Field.lawful c.args.self.now) _ c.args.a c.order.result c.find.result c.order.ensures
+    ∙ inverse_tried (g.met.Self.Field.lawful c.args.self.now) _ c.args.a c.order.result _ c.find.result c.order.ensures (search rules)
     (first_from_Range _ _ _ _ (λ b. o.mul c.args.a b ≡ 1) (λ b. o.mul c.args.a b ≡ 1 → ⊥) c.find.ensures.ran (λ b f k. search (rules, tests)) (λ b f k. search (rules, tests)))
