@@ -30,14 +30,16 @@ fn rest_at(bytes: &[u8], at: usize) -> &[u8]
 }
 
 // N bytes from an offset on, 0 past the end. By the slice's own copy, which needs no proof: `array::from_fn` over `byte_at` would
-// need one of what its closure reads.
+// need one of what its closure reads. Where N are there, the copy has a fixed length, and calls nothing.
 fn bytes_at<const N: usize>(bytes: &[u8], at: usize) -> [u8; N]
     ensures { (i : ℕ) → i < N → slice_index result i ≡ byte bytes.now (at + i) }
 {
     let rest = rest_at(bytes, at);
-    let held = rest.len().min(N);
     let mut field = [0; N];
-    field[..held].copy_from_slice(&rest[..held]);
+    match rest.get(..N) {
+        Some(whole) => field.copy_from_slice(whole),
+        None => field[..rest.len()].copy_from_slice(rest),
+    }
     field
 }
 
