@@ -19,7 +19,7 @@ pub contains_decides : (sets : List ℕ) (a : ℕ) → Decides (contains_one set
 contains_decides sets a =
     Decides-by_or (λ s. within s a) (λ s. Within s a) (λ xs. contains_one xs a) (λ s. within_decides s a) refl (λ _ _. refl) sets
 
-contains_up : (sets : List ℕ) (a b : ℕ) → Within a b → contains_one sets a ≡ true → contains_one sets b ≡ true
+pub contains_up : (sets : List ℕ) (a b : ℕ) → Within a b → contains_one sets a ≡ true → contains_one sets b ≡ true
 contains_up sets a b w h =
     let o = (contains_decides sets a).0 h in
     (contains_decides sets b).1 (o.0, o.1, λ d. within_trans (get_or sets o.0 d) a b w (o.2 d))
@@ -29,13 +29,13 @@ module _ (n : ℕ) (sets : List ℕ) (all : AllByRecursion (λ a. Coalition n a 
   each : (k : ℕ) → k < length sets → Coalition n (get_or sets k 0) × (get_or sets k 0 ≡ 0 → ⊥)
   each k l = All-get_or (λ a. Coalition n a × (a ≡ 0 → ⊥)) sets k 0 l all
 
-  contains_none : contains_one sets 0 ≡ false
+  pub contains_none : contains_one sets 0 ≡ false
   contains_none = elim (cases_Bool (contains_one sets 0)) [
     | inl t ↦ (let o = (contains_decides sets 0).0 t in absurd ((each o.0 o.1).1 (within_empty (get_or sets o.0 0) (o.2 0))))
     | inr f ↦ f
   ]
 
-  contains_all : 1 ≤ length sets → contains_one sets (everyone n) ≡ true
+  pub contains_all : 1 ≤ length sets → contains_one sets (everyone n) ≡ true
   contains_all l = (contains_decides sets (everyone n)).1 (0, omega arith, λ d. rw (get_or_default sets 0 d 0 (omega arith)) (within_everyone n (get_or sets 0 0) (each 0 (omega arith)).0))
 
 -- the table has every coalition at its place

@@ -11,11 +11,15 @@ use crate::sets::{is_properly_within, is_within};
 use crate::structure::AccessStructure;
 use std::array;
 
-// Whether one of the sets lies within `a`.
+// Whether one of the sets lies within `a`. By a slice pattern, one test of the length a set: an iterator's `any` makes two, and
+// each reading of a record asks this of 128 coalitions.
 fn contains_one(sets: &[u8], a: u8) -> bool
     ensures { result ≡ contains_one sets.now a }
 {
-    sets.iter().any(|set| is_within(*set, a))
+    match sets {
+        [] => false,
+        [set, others @ ..] => is_within(*set, a) || contains_one(others, a),
+    }
 }
 
 // Of each coalition whether it contains one of the sets: the one with the code 2 k at k.

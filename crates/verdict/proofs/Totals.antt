@@ -143,7 +143,7 @@ module _ (qualified : ℕ → Bool) (h : Header) (few : h.participants ≤ 7) wh
   alike (Err f) lawful = refl
 
 -- a head that is read is what stands in the bytes
-head_is : (n : ℕ) (bytes : List ℕ) (h : Header) → Ok h ≡ header_of n bytes → h ≡ header_in n bytes
+pub head_is : (n : ℕ) (bytes : List ℕ) (h : Header) → Ok h ≡ header_of n bytes → h ≡ header_in n bytes
 head_is n bytes h e = grind arith
 
 -- the judgement on what follows a head that is read, by the table of its lines

@@ -9,7 +9,7 @@ use Rattle.verdict.specs.Bounds.{ProvedExactly}
 use Rattle.verdict.proofs.Proven.{proved_exactly}
 
 module _ (bytes : List ℕ) (fits : (i : ℕ) → Fits w8 (get_or bytes i 0)) where
-  typed_bytes : Bytes bytes
+  pub typed_bytes : Bytes bytes
   typed_bytes = All-from_get_or (λ b. b < 256) bytes 0 (λ i l. (fits i).fits)
 
   pub head_exact : (n : ℕ) (h : Header) → HeadReadExactly n bytes h

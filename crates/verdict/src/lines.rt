@@ -9,19 +9,19 @@ use access::AccessStructure;
 use polymatroid::Line;
 use record::{LineFault, Reason, need};
 
-// The first six bytes as a line: the two mark bytes tell the kind. They are told apart by a slice pattern, as the project asks.
+// The first six bytes as a line: the two mark bytes tell the kind. They are told apart by a slice pattern, as the project asks. Each
+// arm reads for itself, so that the kind is not told a second time in `Kind::read`.
 fn read_line(structure: &AccessStructure, bytes: &[u8]) -> Result<Line, Reason>
     ensures { result ≡ line_of (participants_of structure.now) (qualified_in structure.now) bytes.now }
 {
     need(bytes, 6)?;
-    let (kind, rest) = match bytes {
-        [0x52, 0x49, rest @ ..] => (Kind::Monotonicity, rest),
-        [0x4C, 0x45, rest @ ..] => (Kind::Submodularity, rest),
-        [0x48, 0x45, rest @ ..] => (Kind::Correctness, rest),
-        [0x42, 0x4C, rest @ ..] => (Kind::Privacy, rest),
-        _ => return Err(Reason::WrongMark),
-    };
-    kind.read(structure, rest)
+    match bytes {
+        [0x52, 0x49, rest @ ..] => Kind::Monotonicity.read(structure, rest),
+        [0x4C, 0x45, rest @ ..] => Kind::Submodularity.read(structure, rest),
+        [0x48, 0x45, rest @ ..] => Kind::Correctness.read(structure, rest),
+        [0x42, 0x4C, rest @ ..] => Kind::Privacy.read(structure, rest),
+        _ => Err(Reason::WrongMark),
+    }
 }
 
 // The same as the line with this number, which a fault carries on.
