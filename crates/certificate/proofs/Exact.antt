@@ -91,7 +91,7 @@ equal_true (pos a) (negsuc b) p = absurd (false≢true p)
 equal_true (negsuc a) (pos b) p = absurd (false≢true p)
 equal_true (negsuc a) (negsuc b) p = ap negsuc (eqb-true a b p)
 
-equal_same : (z : ℤ) → equal z z ≡ true
+pub equal_same : (z : ℤ) → equal z z ≡ true
 equal_same (pos a) = eq-eqb a a refl
 equal_same (negsuc a) = eq-eqb a a refl
 

@@ -20,21 +20,21 @@ less_gain false true f = omega arith
 less_gain false false f = omega arith
 
 -- lists with the same elements
-front : {E : Type 0} (y : E) (xs ys : List E) → Among (xs ++ (y ∷ ys)) (y ∷ (xs ++ ys))
+pub front : {E : Type 0} (y : E) (xs ys : List E) → Among (xs ++ (y ∷ ys)) (y ∷ (xs ++ ys))
 front y xs ys =
     in_both (λ x. Memᴰ x (y ∷ (xs ++ ys))) xs (y ∷ ys) (λ x m. Memᴰ.tail (Memᴰ.append_left ys m))
     (first_or (λ x. Memᴰ x (y ∷ (xs ++ ys))) y ys (Memᴰ.head refl) (λ x m. Memᴰ.tail (Memᴰ.append_right xs m)))
 
-front_back : {E : Type 0} (y : E) (xs ys : List E) → Among (y ∷ (xs ++ ys)) (xs ++ (y ∷ ys))
+pub front_back : {E : Type 0} (y : E) (xs ys : List E) → Among (y ∷ (xs ++ ys)) (xs ++ (y ∷ ys))
 front_back y xs ys =
     first_or (λ x. Memᴰ x (xs ++ (y ∷ ys))) y (xs ++ ys) (Memᴰ.append_right xs (Memᴰ.head refl))
     (in_both (λ x. Memᴰ x (xs ++ (y ∷ ys))) xs ys (λ x m. Memᴰ.append_left (y ∷ ys) m) (λ x m. Memᴰ.append_right xs (Memᴰ.tail m)))
 
-turned : {E : Type 0} (xs ys : List E) → Among (xs ++ ys) (ys ++ xs)
+pub turned : {E : Type 0} (xs ys : List E) → Among (xs ++ ys) (ys ++ xs)
 turned xs ys = in_both (λ x. Memᴰ x (ys ++ xs)) xs ys (λ x m. Memᴰ.append_right ys m) (λ x m. Memᴰ.append_left xs m)
 
 -- the same list in front of both
-under : {E : Type 0} (zs xs ys : List E) → Among xs ys → Among (zs ++ xs) (zs ++ ys)
+pub under : {E : Type 0} (zs xs ys : List E) → Among xs ys → Among (zs ++ xs) (zs ++ ys)
 under zs xs ys i = in_both (λ x. Memᴰ x (zs ++ ys)) zs xs (λ x m. Memᴰ.append_left ys m) (λ x m. Memᴰ.append_right zs (i x m))
 
 module _ {E : Type 0} {cl : E → List E → Bool} (L : Closure E cl) where
@@ -56,7 +56,7 @@ module _ {E : Type 0} {cl : E → List E → Bool} (L : Closure E cl) where
       go false true u w f g h = omega (arith, less_gain false u (λ z. absurd z))
       go false false u w f g h = omega (arith, less_gain w u (h (λ z. z)))
 
-  rank_swap : (a b : E) (ws : List E) → rank cl (a ∷ b ∷ ws) ≡ rank cl (b ∷ a ∷ ws)
+  pub rank_swap : (a b : E) (ws : List E) → rank cl (a ∷ b ∷ ws) ≡ rank cl (b ∷ a ∷ ws)
   rank_swap a b ws = omega (arith, swap_less a b ws, swap_less b a ws)
 
   -- a first element counts the same before two lists with the same elements
