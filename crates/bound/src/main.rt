@@ -2,6 +2,9 @@
 // the lower bound on the information ratio that they prove, or the refusal.
 #![tactic(auto)]
 
+ghost use Rattle.std.specs.Prelude.{Some};
+ghost use Rattle.bound.specs.Answer.{answer_line};
+
 use access::{AccessStructure, read_structure};
 use anyhow::anyhow;
 use certificate::Header;
@@ -56,6 +59,21 @@ impl fmt::Display for Head<'_> {
     }
 }
 
+// The answer is printed in a line, whose text is proved.
+#[derive(Drop)]
+struct Answer(Result<(u32, u32), Refusal>);
+
+impl fmt::Display for Answer {
+    ghost output = { λ a. Some (answer_line a.0) };
+
+    fn fmt<W: fmt::Write>(&self, f: &mut fmt::Formatter<W>) -> fmt::Result {
+        match self.0 {
+            Ok((count, total)) => write!(f, "ok {count}/{total}"),
+            Err(refusal) => write!(f, "no {refusal}"),
+        }
+    }
+}
+
 // What the records hold, as far as they can be read.
 fn print_records(rt: &HostRuntime, rule: &[u8], certificate: &[u8]) -> io::Result<()> {
     let Ok(structure) = read_structure(rule) else {
@@ -66,13 +84,6 @@ fn print_records(rt: &HostRuntime, rule: &[u8], certificate: &[u8]) -> io::Resul
         println!(rt; "{}", Head(&header))?;
     }
     Ok(())
-}
-
-fn print_answer(rt: &HostRuntime, answer: Result<(u32, u32), Refusal>) -> io::Result<()> {
-    match answer {
-        Ok((count, total)) => println!(rt; "ok {count}/{total}"),
-        Err(refusal) => println!(rt; "no {refusal}"),
-    }
 }
 
 // The two paths of the command line.
@@ -103,7 +114,8 @@ fn run(rt: &HostRuntime) -> anyhow::Result<()> {
     let rule = contents(rt, rule_path.as_str())?;
     let certificate = contents(rt, certificate_path.as_str())?;
     print_records(rt, rule.as_slice(), certificate.as_slice())?;
-    print_answer(rt, lower_bound(rule.as_slice(), certificate.as_slice()))?;
+    let answer = lower_bound(rule.as_slice(), certificate.as_slice());
+    println!(rt; "{}", Answer(answer))?;
     Ok(())
 }
 
