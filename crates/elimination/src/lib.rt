@@ -16,7 +16,7 @@ const ROOM: usize = 32;
 
 const WIDTH: usize = 16;
 
-// A vector, with zeros behind it.
+// A vector, and room behind it that counts for nothing.
 type Row = [u8; WIDTH];
 
 // How many vectors of the given width the codes are, if they are at most 32 whole ones of 1 to 16 codes each.
@@ -49,16 +49,18 @@ fn fill(rows: &mut [Row], vectors: &[u8], width: usize)
 {
     let mut rest = vectors;
     for row in rows {
-        let (vector, others) = rest.split_at(width);
-        place(row, vector);
-        rest = others;
+        place(row, rest);
+        rest = &rest[width..];
     }
 }
 
-// Writes the vector to the front of the row.
-fn place(row: &mut Row, vector: &[u8])
-    requires { length vector.now ≤ WIDTH }
-    ensures { (k : ℕ) → k < length vector.now → slice_index row.new k ≡ slice_index vector.now k }
+// Writes the first codes to the row, as many as it has room for. What stands behind a vector does not matter, and a whole row is
+// copied by a fixed length, without a call.
+fn place(row: &mut Row, codes: &[u8])
+    ensures { (k : ℕ) → k < WIDTH → k < length codes.now → slice_index row.new k ≡ slice_index codes.now k }
 {
-    row[..vector.len()].copy_from_slice(vector);
+    match codes.get(..WIDTH) {
+        Some(whole) => row.copy_from_slice(whole),
+        None => row[..codes.len()].copy_from_slice(codes),
+    }
 }

@@ -6,8 +6,8 @@ ghost use Rattle.elimination.specs.Rows.{entry, nonzero_at, RowsAre};
 use crate::{Row, WIDTH};
 use field::Field;
 
-// The first row that is not 0 at column c. A column is a plain index below 16 here and in `clear` and `turn`: a type for it would
-// be made at each call and opened at each use.
+// The first row that is not 0 at column c. A column is a plain index here and in `clear` and `turn`, and so is a width: a type for
+// it would be made at each call and opened at each use.
 pub(crate) fn seek<F: Field>(f: &F, rows: &[Row], c: usize) -> Option<usize>
     requires { c < WIDTH }
     ensures { result ≡ position (nonzero_at (F.ops f.now) c) rows.now }
